@@ -15,7 +15,7 @@ bob.tracker()
 bob.connect(dial(bob, seed=1), to=ann)
 first = ann.listener()
 ann.handshake(first)
-bob.handshake(first)
+bob.listener()
 ann.tracker()
 ann.handshake(first)
 

@@ -93,7 +93,7 @@ class Past:
 
     def which_may(self, event, due):
         """The last few events before this one that it may name, as the end of a sentence."""
-        node = None if event.act == 'handshake' else event.said.get('node')
+        node = event.said.get('node')
         found = sorted(number for act in due for number in self.done.get((act, node), [])[-MOST_TOLD:])[-MOST_TOLD:]
         if not found:
             return '; none%s stands before this one' % ('' if node is None else ' of node %d' % node)
@@ -118,7 +118,7 @@ class Past:
         return self.own_fault(event, 'attempt', 'dialer')
 
     def handshake_fault(self, event):
-        return self.naming_fault(event, 'handshake', ['listener'])
+        return self.own_fault(event, 'handshake', 'listener')
 
     def check_fault(self, event):
         return self.naming_fault(event, 'check', ['check'])

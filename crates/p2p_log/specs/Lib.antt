@@ -2,6 +2,7 @@ pub mod Apart
 pub mod Copies
 pub mod Drained
 pub mod Fates
+pub mod Keys
 pub mod Lines
 pub mod Presets
 pub mod QueueCode

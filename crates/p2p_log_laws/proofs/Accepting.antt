@@ -16,10 +16,9 @@ use Rattle.p2p_log.specs.declared.event.Recipients.{Recipients}
 use Rattle.p2p_log.specs.Copies.{accepted_by}
 use Rattle.p2p_log.specs.Lines.{line}
 use Rattle.p2p_log.specs.Sending.{sending_at, sending_in, keys_sent}
-use Rattle.p2p_log_rules.specs.declared.row.Checked.{Checked}
 use Rattle.p2p_log_rules.specs.declared.row.Row.{Row}
 use Rattle.p2p_log_rules.specs.Admitting.{offered, keys_admitted}
-use Rattle.p2p_log_rules.specs.Checking.{checking_node, checked_at}
+use Rattle.p2p_log_rules.specs.Checking.{Check, check_of}
 use Rattle.p2p_log_rules.specs.Effect.{only, row, effect, limit_at, router_capacity, sent_row, fitting_row, admitted_row, taking, takes_list, send_to_row, send_keys_row, send_row, spent_row}
 use Rattle.p2p_log_rules.specs.Facts.{channels, capacity_in, is_up}
 use Rattle.p2p_log_rules.specs.Frames.{frame_of}
@@ -107,28 +106,25 @@ module _ (configs : List Config) (before : List Entry) (bytes : List ℕ) (check
   abbrev a_checked : Act
   a_checked = act.SendChecked bytes check priority
 
-  abbrev at_node : ℕ
-  at_node = checking_node before check
-
-  -- what it comes to, by what the check has
+  -- what it comes to, by the check
   abbrev Spends : List Key → Type 0
   Spends keys =
-      ((c : Checked) × (checked_at before at_node check ≡ Some c) × ((keys ≡ c.keys) ⊎ ((keys ≡ []) × IsTurnedAway configs before at_node bytes)))
-      ⊎ ((keys ≡ []) × (checked_at before at_node check ≡ None))
+      ((c : Check) × (check_of before check ≡ Some c) × ((keys ≡ c.keys) ⊎ ((keys ≡ []) × IsTurnedAway configs before c.node bytes)))
+      ⊎ ((keys ≡ []) × (check_of before check ≡ None))
 
-  by_check : (o : Option Checked) → checked_at before at_node check ≡ o → Spends (accepted_by a_checked (spent_row configs before bytes at_node priority o).reply)
+  by_check : (o : Option Check) → check_of before check ≡ o → Spends (accepted_by a_checked (spent_row configs before bytes priority o).reply)
   by_check None is = inr (refl, is)
   by_check (Some c) is =
       inl (
         c,
         is,
-        send_to_is_for configs before a_checked bytes at_node c.channel priority (reply.Outcome (Outcome feedback.Ok) at_node c.channel c.keys) (reply.Outcome Rejected at_node c.channel c.keys) c.keys
+        send_to_is_for configs before a_checked bytes c.node c.channel priority (reply.Outcome (Outcome feedback.Ok) c.node c.channel c.keys) (reply.Outcome Rejected c.node c.channel c.keys) c.keys
             refl refl (λ size limit. refl),
       )
 
   effect_spends : (ev : Event) → ev.act ≡ a_checked → Spends (accepted_by a_checked (row configs before ev.at ev.seed ev.act).reply)
   unfolding row
-  effect_spends ev is = subst (λ (b : Act). Spends (accepted_by a_checked (row configs before ev.at ev.seed b).reply)) (sym is) (by_check (checked_at before at_node check) refl)
+  effect_spends ev is = subst (λ (b : Act). Spends (accepted_by a_checked (row configs before ev.at ev.seed b).reply)) (sym is) (by_check (check_of before check) refl)
 
 pub each_checked : (configs : List Config) (script : List Event) (log : List Entry) → IsLawful configs script log → EachIsChecked configs log
 unfolding sending_at effect

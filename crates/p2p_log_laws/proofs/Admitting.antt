@@ -24,11 +24,11 @@ use Rattle.p2p_log_rules.specs.declared.row.Row.{Row}
 use Rattle.p2p_log_rules.specs.Dropping.{LinkEnd, arriving_end, dropping, listener_step_row}
 use Rattle.p2p_log_rules.specs.Effect.{effect, row}
 use Rattle.p2p_log_rules.specs.Facts.{is_up, taken}
-use Rattle.p2p_log_rules.specs.Handshakes.{with_admitted, ends_handshake, unless_ended, acted_handshakes, handshakes_of, is_handshaking, Peer, peer_of, peer_at}
+use Rattle.p2p_log_rules.specs.Handshakes.{handshakes_of, is_handshaking, Peer, peer_of, peer_at}
 use Rattle.p2p_log_rules.specs.Listening.{known_of, gate_rules_at, arrived_row, arrival_turn, listener_turn, has_place, listener_row}
 use Rattle.p2p_log_rules.specs.Puts.{turns_away}
 use Rattle.p2p_log_rules.specs.Rows.{only}
-use Rattle.p2p_log_rules.proofs.Handshakes.{is_among, among-without, handshakes_of-append, handshaking_early}
+use Rattle.p2p_log_rules.proofs.Handshakes.{Begins, Ends, handshakes_now, is_among, among-without, handshaking_early}
 use Rattle.p2p_log_rules.proofs.TakenAt.{taken_at-longer, taken_at-last}
 use Rattle.p2p_log_laws.proofs.Saying.{ComesFrom, Says, StandSays, first_says, PeersCome, comes_still}
 use Rattle.p2p_log_laws.proofs.Shape.{one_move}
@@ -88,36 +88,29 @@ module _ (configs : List Config) (log : List Entry) (n : ℕ) where
 
 -- ---- a handshake that runs ran before, or begins so
 
-module _ (n m h : ℕ) (names : List ℕ) where
-  abbrev pub IsBegun : Act → Reply → Type 0
-  IsBegun a r = (h ≡ m) × (a ≡ act.Listener n) × (r ≡ reply.Gates gates.Admitted)
+module _ (n h : ℕ) (log : List Entry) (e : Entry) where
+  abbrev pub IsBegun : Type 0
+  IsBegun = (h ≡ length log) × (e.event.act ≡ act.Listener n) × (e.reply ≡ reply.Gates gates.Admitted)
 
-  admitted : (j : ℕ) → j ≡ n → (r : Reply) → is_among h (with_admitted m r names) ≡ true → (is_among h names ≡ true) ⊎ IsBegun (act.Listener j) r
-  admitted j here (reply.Gates gates.Admitted) runs = by (is_among h names) refl (sym (list_any-append (λ k. h == k) names (m ∷ [])) ∙ runs)
+  pub begun_or_before : is_handshaking (log ++ e ∷ []) n h ≡ true → (is_handshaking log n h ≡ true) ⊎ IsBegun
+  begun_or_before runs = by (handshakes_now log e n)
     where
+      names : List ℕ
+      names = handshakes_of log n
+
       last : (b : Bool) → (b || false) ≡ true → b ≡ true
       last true is = refl
       last false is = is
 
-      by : (b : Bool) → is_among h names ≡ b → (b || list_any (λ k. h == k) (m ∷ [])) ≡ true → (is_among h names ≡ true) ⊎ IsBegun (act.Listener j) (reply.Gates gates.Admitted)
-      by true is so = inl is
-      by false is so = inr (eqb-true h m (last (h == m) so), ap act.Listener here, refl)
-  admitted j here (reply.Gates _) runs = inl runs
-  admitted j here _ runs = inl runs
+      begun : Begins log e n → (b : Bool) → is_among h names ≡ b → (b || list_any (λ k. h == k) (length log ∷ [])) ≡ true → (is_handshaking log n h ≡ true) ⊎ IsBegun
+      begun begins true is so = inl is
+      begun begins false is so = inr (eqb-true h (length log) (last (h == length log) so), begins.acts, begins.replied)
 
-  pub acted : (r : Reply) (items : List Item) (a : Act) → is_among h (acted_handshakes n m r items a names) ≡ true → (is_among h names ≡ true) ⊎ IsBegun a r
-  acted r items (act.Listener j) runs = by (j == n) refl runs
-    where
-      by : (b : Bool) → (j == n) ≡ b → is_among h (cond b (with_admitted m r names) names) ≡ true → (is_among h names ≡ true) ⊎ IsBegun (act.Listener j) r
-      by true at so = admitted j (eqb-true j n at) r so
-      by false at so = inl so
-  acted r items (act.Handshake k j) runs = by (j == n) (ends_handshake r items) runs
-    where
-      by : (b ended : Bool) → is_among h (cond b (unless_ended ended k names) names) ≡ true → (is_among h names ≡ true) ⊎ IsBegun (act.Handshake k j) r
-      by true true so = inl (and_parts (not (h == k)) (is_among h names) (sym (among-without k h names) ∙ so)).1
-      by true false so = inl so
-      by false ended so = inl so
-  acted r items _ runs = inl runs
+      by : (handshakes_of (log ++ e ∷ []) n ≡ names) ⊎ (Begins log e n ⊎ Ends log e n) → (is_handshaking log n h ≡ true) ⊎ IsBegun
+      by (inl same) = inl (sym (ap (is_among h) same) ∙ runs)
+      by (inr (inl begins)) =
+          begun begins (is_among h names) refl (sym (list_any-append (λ k. h == k) names (length log ∷ [])) ∙ (sym (ap (is_among h) begins.now) ∙ runs))
+      by (inr (inr ends)) = inl (and_parts (not (h == ends.name)) (is_among h names) (sym (among-without ends.name h names) ∙ (sym (ap (is_among h) ends.now) ∙ runs))).1
 
 -- ---- one more entry
 
@@ -147,7 +140,7 @@ module _ (configs : List Config) (log : List Entry) (ev : Event) (say : Each (St
 
   pub peers_come : PeersCome configs longer
   unfolding effect
-  peers_come n h runs = by (acted n (length log) h (handshakes_of log n) e.reply (taken log e) ev.act (ap (is_among h) (sym (handshakes_of-append log e n)) ∙ runs))
+  peers_come n h runs = by (begun_or_before n h log e runs)
     where
       by : (is_handshaking log n h ≡ true) ⊎ ((h ≡ length log) × (ev.act ≡ act.Listener n) × (e.reply ≡ reply.Gates gates.Admitted)) → Comes n (peer_at longer h)
       by (inl before) =

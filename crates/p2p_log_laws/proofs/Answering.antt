@@ -3,6 +3,7 @@ use Rattle.std.proofs.Common.{◌≡◌, ℕ, ◌+◌, ◌≤◌, Bool, true, fa
 use Rattle.std.specs.Prelude.{◌==◌, ◌&&◌, ◌||◌, not, nat_le, nat_lt, count_by}
 use Rattle.std.specs.List.{AllByRecursion as Each}
 use Rattle.std.proofs.lemmas.Bool.Decides.{nat_tests}
+use Rattle.p2p_log_rules.proofs.Bools.{and_false, or_false}
 use Rattle.p2p_base.specs.declared.key.Key.{Key}
 use Rattle.p2p_address.specs.declared.ip.IpAddr.{IpAddr}
 use Rattle.p2p_tracker_calls.specs.declared.call.Call.{Call}
@@ -34,13 +35,13 @@ use Rattle.p2p_log.proofs.Each.{Each-weaker, count_by-none}
 use Rattle.p2p_log.proofs.Queues.{same_queue-refl}
 use Rattle.p2p_log_rules.specs.Connections.{is_ended}
 use Rattle.p2p_log_rules.specs.declared.row.Row.{Row}
-use Rattle.p2p_log_rules.specs.Attempting.{Attempt, dial_rules_at, attempts_of, resolved, given_up_row, resolved_row, ready_row, link_of, took_row as attempt_took_row, attempt_turn, attempt_by, attempt_row}
-use Rattle.p2p_log_rules.specs.Dialing.{Dials, dials_of, in_drawn_order, last_key, dial_puts, answered_row, due_row, dialer_turn, dialer_row}
+use Rattle.p2p_log_rules.specs.Attempting.{Attempt, dial_rules_at, attempts_of, resolved, given_up_row, resolved_row, ready_row, link_of, attempt_took_row, attempt_turn, attempt_by, attempt_row}
+use Rattle.p2p_log_rules.specs.Dialing.{Dials, dials_of, in_drawn_order, last_key, dial_puts, answer_taken_row, due_row, dialer_turn, dialer_row}
 use Rattle.p2p_log_rules.specs.Dropping.{LinkEnd, dialing_end, arriving_end, dropping, attempt_step_row, listener_step_row}
 use Rattle.p2p_log_rules.specs.Puts.{gave_up, turns_away}
 use Rattle.p2p_log_rules.specs.Effect.{entry_of, row, send_step_row, recv_step_row}
-use Rattle.p2p_log_rules.specs.Facts.{is_up, taken}
-use Rattle.p2p_log_rules.specs.Handshakes.{is_handshaking, is_accepted, source_at, steps_handshake, takes_acceptance}
+use Rattle.p2p_log_rules.specs.Facts.{is_up}
+use Rattle.p2p_log_rules.specs.Handshakes.{is_handshaking, is_accepted, source_at, takes_acceptance}
 use Rattle.p2p_log_rules.specs.Listening.{known_of, gate_rules_at, gates_puts, arrived_row, arrival_turn, listener_turn, has_place, listener_row}
 use Rattle.p2p_log_rules.specs.Moves.{Moves}
 use Rattle.p2p_log_rules.specs.Rows.{only, is_spawner_full}
@@ -48,6 +49,7 @@ use Rattle.p2p_log_rules.specs.Tracking.{key_cmp, rules_at, asked_by, calls_of, 
 use Rattle.p2p_log_rules.specs.TrackerPuts as puts
 use Rattle.p2p_log_rules.specs.TrackerPuts.{acceptance, listen_grant, handshake_puts, item_puts, heeded}
 use Rattle.p2p_log_rules.specs.TrackerRows as rows
+use Rattle.p2p_log_rules.proofs.HandshakeTook.{IsOther, takes_now, takes_none, takes_same}
 use Rattle.p2p_log_rules.proofs.Moves.{one_taken}
 use Rattle.p2p_log_rules.proofs.Touches.{away}
 use Rattle.p2p_log_laws.proofs.Reaching.{Reach, writes}
@@ -57,7 +59,6 @@ use Rattle.p2p_log_laws.specs.OneAnswer.{Words, tells, asks_about, is_for, ends_
 use Rattle.p2p_log_laws.proofs.DropShape.{each_dropping}
 use Rattle.p2p_log_laws.proofs.Dropped.{taken_same, taken-dropping}
 use Rattle.p2p_log_laws.proofs.ListenerShape.{listener_shape}
-use Rattle.p2p_log_laws.proofs.Plain.{and_false}
 use Rattle.p2p_log_laws.proofs.Shape.{Shape, no_moves}
 use Rattle.p2p_log_laws.proofs.Shapes.{row_shape}
 use Rattle.p2p_log_laws.proofs.HalfSteps.{released, each_step, send_is, receive_is}
@@ -65,10 +66,6 @@ use Rattle.p2p_log_laws.proofs.TrackerMoves.{served_moves, unblocked_moves}
 use Rattle.p2p_log_laws.proofs.TrackerPuts.{EachKind, each_unblocked, each_asked, each_connected}
 use Rattle.p2p_log_laws.proofs.Weighing.{weight, count_by-one}
 use Rattle.p2p_log_laws.proofs.Heeded.{count_by-heeded}
-
-or_false : (b : Bool) → (b || false) ≡ b
-or_false true = refl
-or_false false = refl
 
 or_true : (b c : Bool) → c ≡ true → (b || c) ≡ true
 or_true true c h = refl
@@ -111,7 +108,7 @@ module _ (w : Words) (n name : ℕ) where
   -- ---- what a row makes of it
 
   abbrev pub accepts_now : List Entry → Event → Row → Bool
-  accepts_now log ev r = steps_handshake n name ev.act && takes_acceptance (taken log (entry_of ev r))
+  accepts_now log ev r = takes_now takes_acceptance log (entry_of ev r) n name
 
   -- it begins: its question is put
   pub record Begins (log : List Entry) (ev : Event) (r : Row) : Type 0 where
@@ -164,19 +161,22 @@ module _ (w : Words) (n name : ℕ) where
       kept a b c more also le is same = omega (arith, le, is, same)
 
       same : accepts_now log ev (dropping log (Some e) r) ≡ accepts_now log ev r
-      same = ap (λ items. steps_handshake n name ev.act && takes_acceptance items) (taken-dropping log ev (Some e) r)
+      same = takes_same takes_acceptance log (entry_of ev (dropping log (Some e) r)) (entry_of ev r) n name refl (taken-dropping log ev (Some e) r)
 
   module _ (configs : List Config) (log : List Entry) (at seed : ℕ) where
     abbrev event : Act → Event
     event a = record { at = at; seed = seed; act = a }
 
-    -- an act that is no step of it, and puts nothing for it
-    pub puts_none : (a : Act) (r : Row) → Shape configs log a r → Each Silent r.puts → steps_handshake n name a ≡ false → Answers log (event a) r
-    puts_none a r shape silent still =
-        quiet log (event a) r shape.moves silent (ap (λ b. b && takes_acceptance (taken log (entry_of (event a) r))) still)
+    -- an act that is no step of it accepts nothing for it
+    none_now : (a : Act) (r : Row) → IsOther n name a → accepts_now log (event a) r ≡ false
+    none_now a r still = takes_none takes_acceptance log (entry_of (event a) r) n name still
+
+    -- as one that puts nothing for it
+    pub puts_none : (a : Act) (r : Row) → Shape configs log a r → Each Silent r.puts → IsOther n name a → Answers log (event a) r
+    puts_none a r shape silent still = quiet log (event a) r shape.moves silent (none_now a r still)
 
     pub other : (a : Act) (r : Row) → Shape configs log a r → writes configs log a (queue.Tracker n) ≡ false → writes configs log a (queue.Handshake n name) ≡ false
-        → steps_handshake n name a ≡ false → Answers log (event a) r
+        → IsOther n name a → Answers log (event a) r
     other a r shape t s still = puts_none a r shape (silent_out_of_reach configs a log r shape.moves shape.reach t s) still
 
     -- ---- what a sending half tells
@@ -217,7 +217,7 @@ module _ (w : Words) (n name : ℕ) where
     due_silent m [] = (silent_item (queue.Tracker m) item.AskDialable refl refl, tt)
     due_silent m (k ∷ ks) = dial_silent m (last_key (k ∷ ks))
 
-    answered_silent : (m : ℕ) (d : Dials) (took : ℕ × ℕ) (i : Item) → Each Silent (answered_row m seed d took i).puts
+    answered_silent : (m : ℕ) (d : Dials) (took : ℕ × ℕ) (i : Item) → Each Silent (answer_taken_row m seed d took i).puts
     answered_silent m d took (item.Dialable next peers) = dial_silent m (last_key (in_drawn_order seed peers))
     answered_silent m d took (item.Dial None) = dial_silent m (last_key d.peers)
     answered_silent m d took (item.Dial (Some grant)) = tt
@@ -319,10 +319,11 @@ module _ (w : Words) (n name : ℕ) where
 
       -- the oldest message is taken
       served : (x : Envelope) (rest : List Envelope) → line log (queue.Tracker n) ≡ x ∷ rest
-          → Answers log (event (act.Tracker n)) (rows.told_row log (name_of x ∷ []) (heeded (is_ended log n) (item_puts rules n at us bs calls log x.item)))
+          → Answers log (event (act.Tracker n)) (rows.tracker_told_row log (name_of x ∷ []) (heeded (is_ended log n) (item_puts rules n at us bs calls log x.item)))
       served x rest first =
           let all : List (Queue × Item) = item_puts rules n at us bs calls log x.item in
           let xs : List (Queue × Item) = heeded (is_ended log n) all in
+          let r : Row = rows.tracker_told_row log (name_of x ∷ []) xs in
           let counted : count_by (is_for w n name) xs ≡ count_by (is_for w n name) all = count_by-heeded (is_ended log n) (is_for w n name) (λ m conn. refl) all in
           let stood : x.queue ≡ queue.Tracker n = one_taken log (queue.Tracker n) x rest first in
           let asked : is_for w n name (put_of x) ≡ asks_about w n name x.item =
@@ -331,14 +332,15 @@ module _ (w : Words) (n name : ℕ) where
           in
           record {
             moves = served_moves log xs (queue.Tracker n) x rest first;
-            few = inl (few_put (count_by (is_for w n name) xs) (one (w.acceptance && false)) (one (asks_about w n name x.item)) (weight (is_for w n name) (x ∷ []))
-                (subst (λ c. c + 0 ≤ one (asks_about w n name x.item)) (sym counted) (item_few x.item)) (ap one (and_false w.acceptance)) (count_by-one (λ y. is_for w n name (put_of y)) x ∙ ap one asked));
+            few = inl (few_put (count_by (is_for w n name) xs) (one (w.acceptance && accepts_now log (event (act.Tracker n)) r)) (one (asks_about w n name x.item)) (weight (is_for w n name) (x ∷ []))
+                (subst (λ c. c + 0 ≤ one (asks_about w n name x.item)) (sym counted) (item_few x.item))
+                (ap (λ b. one (w.acceptance && b)) (none_now (act.Tracker n) r (λ so. cc)) ∙ ap one (and_false w.acceptance)) (count_by-one (λ y. is_for w n name (put_of y)) x ∙ ap one asked));
           }
 
-      unblocked : Answers log (event (act.Tracker n)) (rows.told_row log [] (puts.unblocked_puts rules n at us bs calls (call.UnblockExpired at)))
+      unblocked : Answers log (event (act.Tracker n)) (rows.tracker_told_row log [] (puts.unblocked_puts rules n at us bs calls (call.UnblockExpired at)))
       unblocked =
           let xs : List (Queue × Item) = puts.unblocked_puts rules n at us bs calls (call.UnblockExpired at) in
-          quiet log (event (act.Tracker n)) (rows.told_row log [] xs) (unblocked_moves log xs) (each_unblocked n Silent kinds_silent rules at us bs calls (call.UnblockExpired at)) refl
+          quiet log (event (act.Tracker n)) (rows.tracker_told_row log [] xs) (unblocked_moves log xs) (each_unblocked n Silent kinds_silent rules at us bs calls (call.UnblockExpired at)) (none_now (act.Tracker n) (rows.tracker_told_row log [] xs) (λ so. cc))
 
     abbrev us : List ℕ
     us = update_subscriptions log n
@@ -350,14 +352,14 @@ module _ (w : Words) (n name : ℕ) where
     calls = calls_of configs log n
 
     oldest_answers : (xs : List Envelope) → line log (queue.Tracker n) ≡ xs → Answers log (event (act.Tracker n)) (rows.served_row configs log n at xs)
-    oldest_answers [] first = quiet log (event (act.Tracker n)) (only reply.Idle) (no_moves log (only reply.Idle) refl refl) tt refl
+    oldest_answers [] first = quiet log (event (act.Tracker n)) (only reply.Idle) (no_moves log (only reply.Idle) refl refl) tt (none_now (act.Tracker n) (only reply.Idle) (λ so. cc))
     oldest_answers (x ∷ rest) first = served (rules_at configs n) us bs calls x rest first
 
     step_answers : Answers log (event (act.Tracker n)) (rows.tracker_step configs log n at)
     step_answers = by (puts.is_some_of (due_keys key_cmp (rules_at configs n) calls at))
       where
         by : (b : Bool) → Answers log (event (act.Tracker n))
-            (cond b (rows.told_row log [] (puts.unblocked_puts (rules_at configs n) n at us bs calls (call.UnblockExpired at))) (rows.served_row configs log n at (line log (queue.Tracker n))))
+            (cond b (rows.tracker_told_row log [] (puts.unblocked_puts (rules_at configs n) n at us bs calls (call.UnblockExpired at))) (rows.served_row configs log n at (line log (queue.Tracker n))))
         by true = unblocked (rules_at configs n) us bs calls
         by false = oldest_answers (line log (queue.Tracker n)) refl
 
@@ -366,13 +368,13 @@ module _ (w : Words) (n name : ℕ) where
       where
         by : (b : Bool) → Answers log (event (act.Tracker n)) (cond b (rows.tracker_step configs log n at) (only reply.Gone))
         by true = step_answers
-        by false = quiet log (event (act.Tracker n)) (only reply.Gone) (no_moves log (only reply.Gone) refl refl) tt refl
+        by false = quiet log (event (act.Tracker n)) (only reply.Gone) (no_moves log (only reply.Gone) refl refl) tt (none_now (act.Tracker n) (only reply.Gone) (λ so. cc))
 
     pub tracker_at : (m : ℕ) (b : Bool) → (m == n) ≡ b → Answers log (event (act.Tracker m)) (row configs log at seed (act.Tracker m))
     unfolding row
     tracker_at m true same = subst (λ i. Answers log (event (act.Tracker i)) (rows.tracker_row configs log i at)) (sym (eqb-true m n same)) tracker_answers
     tracker_at m false differ =
-        other (act.Tracker m) (rows.tracker_row configs log m at) (row_shape configs log at seed (act.Tracker m)) (other_way m n differ) (other_way m n differ) refl
+        other (act.Tracker m) (rows.tracker_row configs log m at) (row_shape configs log at seed (act.Tracker m)) (other_way m n differ) (other_way m n differ) (λ so. cc)
 
     -- ---- the listener's
 
@@ -420,7 +422,7 @@ module _ (w : Words) (n name : ℕ) where
         by false b c = omega arith
 
     pub listening : (m : ℕ) → Asks m (listener_step_row configs log m at).puts → Answers log (event (act.Listener m)) (listener_step_row configs log m at)
-    listening m (inl is) = puts_none (act.Listener m) (listener_step_row configs log m at) (listener_shape configs log m at) (subst (Each Silent) (sym is) tt) refl
+    listening m (inl is) = puts_none (act.Listener m) (listener_step_row configs log m at) (listener_shape configs log m at) (subst (Each Silent) (sym is) tt) (λ so. cc)
     listening m (inr asked) = by_name (length log == name) refl
       where
         by_name : (b : Bool) → (length log == name) ≡ b → Answers log (event (act.Listener m)) (listener_step_row configs log m at)
@@ -432,9 +434,9 @@ module _ (w : Words) (n name : ℕ) where
                 named = sym (eqb-true (length log) name same);
                 one_put = subst (λ xs. count_by (is_for w n name) xs ≤ one w.acceptance) (sym asked.1)
                     (subst (λ c. c ≤ one w.acceptance) (sym (count_by-one (is_for w n name) question)) (question_counts m asked.0));
-                none_accepted = refl;
+                none_accepted = none_now (act.Listener m) (listener_step_row configs log m at) (λ so. cc);
               }));
             }
         by_name false differ =
             puts_none (act.Listener m) (listener_step_row configs log m at) (listener_shape configs log m at)
-            (subst (Each Silent) (sym asked.1) (silent_item (queue.Tracker m) (item.AskAcceptable (length log) asked.0) (ap (λ b. w.acceptance && b) differ ∙ and_false w.acceptance) refl, tt)) refl
+            (subst (Each Silent) (sym asked.1) (silent_item (queue.Tracker m) (item.AskAcceptable (length log) asked.0) (ap (λ b. w.acceptance && b) differ ∙ and_false w.acceptance) refl, tt)) (λ so. cc)

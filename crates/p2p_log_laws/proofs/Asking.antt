@@ -3,6 +3,7 @@ use Rattle.std.proofs.Common.{◌≡◌, ℕ, Bool, true, false, cond, List, [],
 use Rattle.std.specs.Prelude.{◌==◌, ◌&&◌, ◌||◌}
 use Rattle.std.specs.List.{AllByRecursion as Each}
 use Rattle.std.proofs.lemmas.Bool.Decides.{nat_tests}
+use Rattle.p2p_log_rules.proofs.Bools.{and_false}
 use Rattle.p2p_address.specs.declared.ip.IpAddr.{IpAddr}
 use Rattle.p2p_tracker_calls.specs.declared.call.Call.{Call}
 use Rattle.p2p_tracker_calls.specs.declared.call.Call.TheVariants as call
@@ -30,7 +31,8 @@ use Rattle.p2p_log_rules.specs.Dropping.{attempt_step_row, handshake_step_row, l
 use Rattle.p2p_log_rules.specs.Dialing.{dialer_row}
 use Rattle.p2p_log_rules.specs.Effect.{row, send_step_row, recv_step_row}
 use Rattle.p2p_log_rules.specs.Facts.{is_up}
-use Rattle.p2p_log_rules.specs.Handshakes.{is_handshaking, source_at, steps_handshake}
+use Rattle.p2p_log_rules.specs.Handshakes.{is_handshaking, source_at}
+use Rattle.p2p_log_rules.proofs.HandshakeTook.{IsOther, other_step}
 use Rattle.p2p_log_rules.specs.Rows.{only}
 use Rattle.p2p_log_rules.specs.Tracking.{key_cmp, rules_at, asked_by, calls_of, update_subscriptions, blocked_subscriptions}
 use Rattle.p2p_log_rules.specs.TrackerPuts as puts
@@ -43,7 +45,6 @@ use Rattle.p2p_log_laws.proofs.Reaching.{writes}
 use Rattle.p2p_log_laws.specs.OneAnswer.{exchanges, asks_for, is_asked}
 use Rattle.p2p_log_laws.proofs.Answering.{Silent, Asks, ask_silent, dialer_silent, attempt_silent, listener_asks}
 use Rattle.p2p_log_laws.proofs.HandshakeAnswers.{row_silent}
-use Rattle.p2p_log_laws.proofs.Plain.{and_false}
 use Rattle.p2p_log_laws.proofs.Shape.{Shape}
 use Rattle.p2p_log_laws.proofs.Shapes.{row_shape}
 use Rattle.p2p_log_laws.proofs.HalfSteps.{each_step, send_is, receive_is}
@@ -115,7 +116,7 @@ module _ (n name : ℕ) where
     tracker_unasked = by_up (is_up log n)
       where
         by_due : (b : Bool) → Each Unasked
-            (cond b (rows.told_row log [] (puts.unblocked_puts rules n at us bs calls (call.UnblockExpired at))) (rows.served_row configs log n at (line log (queue.Tracker n)))).puts
+            (cond b (rows.tracker_told_row log [] (puts.unblocked_puts rules n at us bs calls (call.UnblockExpired at))) (rows.served_row configs log n at (line log (queue.Tracker n)))).puts
         by_due true = each_unblocked n Unasked kinds_unasked rules at us bs calls (call.UnblockExpired at)
         by_due false = served_unasked (line log (queue.Tracker n))
 
@@ -143,14 +144,14 @@ module _ (n name : ℕ) where
     ends_aside None = refl
     ends_aside (Some o) = refl
 
-    pub each_unasked : (a : Act) → steps_handshake n name a ≡ false → Each Unasked (row configs log at seed a).puts
+    pub each_unasked : (a : Act) → IsOther n name a → Each Unasked (row configs log at seed a).puts
     unfolding row
     each_unasked (act.Ask what m) other = all_unasked (rows.ask_row configs log m what).puts (ask_silent exchanges n name configs log at seed what m)
     each_unasked (act.Tracker m) other = tracker_at m (m == n) refl
     each_unasked (act.Dialer m) other = all_unasked (dialer_row configs log m at seed).puts (dialer_silent exchanges n name configs log at seed m)
     each_unasked (act.Attempt e m) other = all_unasked (attempt_step_row configs log e m at seed).puts (attempt_silent exchanges n name configs log at seed e m)
     each_unasked (act.Listener m) other = listens_unasked m (listener_step_row configs log m at).puts (listener_asks exchanges n name configs log at seed m)
-    each_unasked (act.Handshake k m) other = all_unasked (handshake_step_row configs log k m at).puts (row_silent exchanges n name configs log at seed k m other)
+    each_unasked (act.Handshake k m) other = all_unasked (handshake_step_row configs log k m at).puts (row_silent exchanges n name configs log at seed k m (other_step n name m k other))
     each_unasked (act.Finish link ok) other = out_of_reach (act.Finish link ok) (row configs log at seed (act.Finish link ok)) (row_shape configs log at seed (act.Finish link ok)) (ends_aside (openings_of log link))
     each_unasked (act.SendStep conn m) other =
         each_step Unasked log m conn (send_step_row configs log conn m at) (λ key. (refl, (unasked_item (queue.Tracker m) (item.Release key) refl, tt)))

@@ -1,67 +1,72 @@
 -- How many attempts of a node's dialer hold a key after one more entry.
 use Rattle.std.proofs.Common.{◌≡◌, ℕ, ◌+◌, Bool, true, false, cond, List, [], ◌∷◌, ◌++◌, length, Option, Some, None, refl, ap, sym, ◌∙◌, arith, eqb-true}
-use Rattle.std.specs.Prelude.{◌==◌}
-use Rattle.std.specs.Option.{option_map}
+use Rattle.std.specs.Prelude.{◌==◌, ◌||◌}
+use Rattle.std.specs.List.{list_any}
 use Rattle.p2p_base.specs.declared.key.Key.{Key}
 use Rattle.p2p_log.specs.declared.config.Config.{Config}
-use Rattle.p2p_log.specs.declared.queue.Queue.{Queue}
 use Rattle.p2p_log.specs.declared.item.Item.{Item}
+use Rattle.p2p_log.specs.declared.item.Item.TheVariants as item
 use Rattle.p2p_log.specs.declared.entry.Entry.{Entry}
-use Rattle.p2p_log.specs.declared.entry.Reply.{Reply}
-use Rattle.p2p_log.specs.declared.entry.Reply.TheVariants as reply
-use Rattle.p2p_log_rules.specs.Attempting.{Attempt, attempts_of}
-use Rattle.p2p_log_rules.proofs.Attempts.{told_addresses, told_answer, told_link, and_then, attempts_by}
-use Rattle.p2p_log_rules.proofs.Attempts.{attempts_of-append, attempts_of-late}
+use Rattle.p2p_log_rules.specs.Attempting.{Attempt, DialRules, attempts_of}
+use Rattle.p2p_log_rules.specs.Tellings.{Telling}
+use Rattle.p2p_log_rules.specs.Tellings as telling
+use Rattle.p2p_log_rules.specs.Told.{ends, took_tells, tells, told}
+use Rattle.p2p_log_rules.proofs.Attempts.{is_begun, key_of, attempt_told, key_told, attempts_by, attempts_of-append}
+use Rattle.p2p_log_rules.proofs.AttemptTellings.{attempts_of-late}
+use Rattle.p2p_log_rules.proofs.Families.{kind, kinds_of, has, are_apart, untold_of}
+use Rattle.p2p_log_rules.proofs.Tellings.{or_left, or_right}
 use Rattle.p2p_log_laws.specs.Grants.{one}
 use Rattle.p2p_log_laws.specs.NodeGrants.{count_below, is_attempt_of}
-use Rattle.p2p_log_laws.proofs.CountBelow.{test_cond, begun_test, count_kept, count_begun, count_changed}
+use Rattle.p2p_log_laws.proofs.CountBelow.{count_kept, count_begun, count_changed}
 use Rattle.p2p_log_laws.proofs.StandingAttempts.{Attempts, stands_before, longer}
-use Rattle.p2p_log_rules.specs.Facts.{with_named, with_begun}
 
-module _ (key : Key) where
-  abbrev pub holds : Option Attempt → Bool
-  holds o = is_attempt_of key o
+module _ (rules : DialRules) (n k : ℕ) (key : Key) where
+  -- it holds the key by its own key
+  abbrev is_key : Option Key → Bool
+  is_key o = elim o [ None ↦ false | Some x ↦ x.0 == key.0 ]
 
-  -- what an attempt is told leaves its key
-  pub told_kept : (t : Bool) (g : Attempt → Attempt) (e k : ℕ) (f : Attempts) → ((a : Attempt) → holds (Some (g a)) ≡ holds (Some a))
-      → holds (cond t (with_named e (option_map g (f e)) f k) (f k)) ≡ holds (f k)
-  told_kept false g e k f same = refl
-  told_kept true g e k f same = go (k == e) refl
+  by_key : (o : Option Attempt) → is_attempt_of key o ≡ is_key (key_of o)
+  by_key None = refl
+  by_key (Some a) = refl
+
+  -- what is told of it: the same unless it ends, where none begins
+  pub told_holds : (us : List Telling) (o : Option Attempt) → list_any (is_begun n k) us ≡ false → is_attempt_of key (attempt_told rules n k us o) ≡ cond (list_any (ends n k) us) false (is_attempt_of key o)
+  told_holds us o none = by_key (attempt_told rules n k us o) ∙ (ap is_key (key_told rules n k us o none) ∙ by (list_any (ends n k) us))
     where
-      mapped : (o : Option Attempt) → holds (option_map g o) ≡ holds o
-      mapped None = refl
-      mapped (Some a) = same a
+      by : (b : Bool) → is_key (cond b None (key_of o)) ≡ cond b false (is_attempt_of key o)
+      by true = refl
+      by false = sym (by_key o)
 
-      go : (b : Bool) → (k == e) ≡ b → holds (cond b (option_map g (f e)) (f k)) ≡ holds (f k)
-      go true at = mapped (f e) ∙ ap (λ i. holds (f i)) (sym (eqb-true k e at))
-      go false other = refl
+  -- what it took: the same
+  pub took_holds : (at seed : ℕ) (items : List Item) (a : Attempt) → is_attempt_of key (attempt_told rules n k (took_tells n k at seed items) (Some a)) ≡ is_attempt_of key (Some a)
+  took_holds at seed (item.Resolved addresses ∷ items) a = refl
+  took_holds at seed (item.Linked ∷ items) a = refl
+  took_holds at seed _ a = refl
 
-  -- what does not stand does not begin by its own step
-  pub none_kept : (t : Bool) (g : Attempt → Option Attempt) (e k : ℕ) (f : Attempts) → f e ≡ None → holds (cond t (with_named e (and_then g (f e)) f k) (f k)) ≡ holds (f k)
-  none_kept false g e k f none = refl
-  none_kept true g e k f none = go (k == e) refl
-    where
-      go : (b : Bool) → (k == e) ≡ b → holds (cond b (and_then g (f e)) (f k)) ≡ holds (f k)
-      go true at = ap (λ o. holds (and_then g o)) none ∙ sym (ap holds (ap f (eqb-true k e at) ∙ none))
-      go false other = refl
+  -- the kinds that begin or end one
+  abbrev bounds : Telling → Bool
+  bounds t = is_begun n k t || ends n k t
 
-  pub addresses_kept : (r : Reply) (a : Attempt) → holds (Some (told_addresses r a)) ≡ holds (Some a)
-  addresses_kept reply.Ok a = refl
-  addresses_kept _ a = refl
+  bound_kinds : (t : Telling) → has (7 ∷ 13 ∷ []) (kind t) ≡ false → bounds t ≡ false
+  bound_kinds (telling.attempt_begun m j x ingress at) h = cc
+  bound_kinds (telling.attempt_ended m j) h = cc
+  bound_kinds _ h = refl
 
-  pub answer_kept : (name : ℕ) (r : Reply) (a : Attempt) → holds (Some (told_answer name r a)) ≡ holds (Some a)
-  answer_kept name reply.Ok a = refl
-  answer_kept name _ a = refl
+  parts : (us : List Telling) → list_any bounds us ≡ false → (list_any (is_begun n k) us ≡ false) × (list_any (ends n k) us ≡ false)
+  parts [] none = (refl, refl)
+  parts (t ∷ ts) none =
+      let here : bounds t ≡ false = or_left (bounds t) (list_any bounds ts) none in
+      let later = parts ts (or_right (bounds t) (list_any bounds ts) none) in (
+        ap (λ b. b || list_any (is_begun n k) ts) (or_left (is_begun n k t) (ends n k t) here) ∙ later.0,
+        ap (λ b. b || list_any (ends n k) ts) (or_right (is_begun n k t) (ends n k t) here) ∙ later.1,
+      )
 
-  pub link_kept : (name : ℕ) (r : Reply) (puts : List (Queue × Item)) (a : Attempt) → holds (Some (told_link name r puts a)) ≡ holds (Some a)
-  link_kept name reply.Ok (told ∷ arrival ∷ puts) a = refl
-  link_kept name reply.Ok (told ∷ []) a = refl
-  link_kept name reply.Ok [] a = refl
-  link_kept name _ puts a = refl
-
-  -- another node's attempts
-  pub others_kept : (t : Bool) (o u : Option Attempt) → t ≡ false → holds (cond t o u) ≡ holds u
-  others_kept t o u h = ap (λ b. holds (cond b o u)) h
+  -- an act that tells of neither
+  pub bounded_holds : (log : List Entry) (e : Entry) (o : Option Attempt) → are_apart (kinds_of e.event.act) (7 ∷ 13 ∷ []) ≡ true → is_attempt_of key (attempt_told rules n k (tells (told log) log e) o) ≡ is_attempt_of key o
+  bounded_holds log e o apart =
+      let us : List Telling = tells (told log) log e in
+      let none = parts us (untold_of bounds (7 ∷ 13 ∷ []) bound_kinds (told log) log e apart) in
+      told_holds us o none.0 ∙ ap (λ b. cond b false (is_attempt_of key o)) none.1
 
 module _ (configs : List Config) (n : ℕ) (key : Key) where
   abbrev pub held_by_attempts : List Entry → ℕ
@@ -87,18 +92,22 @@ module _ (configs : List Config) (n : ℕ) (key : Key) (log : List Entry) (e : E
       count_kept (length log) (length (log ++ e ∷ [])) (longer log e) p q (ap (is_attempt_of key) none)
       (λ k. ap (is_attempt_of key) (attempts_of-append configs log e n k) ∙ h k)
 
-  -- one is begun
-  pub holds_begun : (o : Option Attempt) → ((k : ℕ) → attempts_by configs n log e f k ≡ with_begun o (length log) f k)
-      → held_by_attempts configs n key (log ++ e ∷ []) ≡ held_by_attempts configs n key log + one (is_attempt_of key o)
-  holds_begun o h =
-      count_begun (length log) (length (log ++ e ∷ [])) (longer log e) p q (ap (is_attempt_of key) none) (is_attempt_of key o)
-      (λ k. ap (is_attempt_of key) (attempts_of-append configs log e n k ∙ h k) ∙ begun_test (is_attempt_of key) o (length log) k f none)
+  -- another at one name, and as before at the others
+  at_one : (i : ℕ) → ((k : ℕ) → (k == i) ≡ false → attempts_of configs (log ++ e ∷ []) n k ≡ f k) → (k : ℕ) → q k ≡ cond (k == i) (q i) (p k)
+  at_one i others k = by (k == i) refl
+    where
+      by : (b : Bool) → (k == i) ≡ b → q k ≡ cond b (q i) (p k)
+      by true same = ap q (eqb-true k i same)
+      by false other = ap (is_attempt_of key) (others k other)
+
+  -- one begins, or none
+  pub holds_begun : ((k : ℕ) → (k == length log) ≡ false → attempts_of configs (log ++ e ∷ []) n k ≡ f k)
+      → held_by_attempts configs n key (log ++ e ∷ []) ≡ held_by_attempts configs n key log + one (is_attempt_of key (attempts_of configs (log ++ e ∷ []) n (length log)))
+  holds_begun others = count_begun (length log) (length (log ++ e ∷ [])) (longer log e) p q (ap (is_attempt_of key) none) (q (length log)) (at_one (length log) others)
 
   -- one goes on or ends
-  pub holds_changed : (i : ℕ) (a : Attempt) (o : Option Attempt) → f i ≡ Some a → ((k : ℕ) → attempts_by configs n log e f k ≡ with_named i o f k)
-      → held_by_attempts configs n key (log ++ e ∷ []) + one (a.key.0 == key.0) ≡ held_by_attempts configs n key log + one (is_attempt_of key o)
-  holds_changed i a o stands h =
+  pub holds_changed : (i : ℕ) (a : Attempt) → f i ≡ Some a → ((k : ℕ) → (k == i) ≡ false → attempts_of configs (log ++ e ∷ []) n k ≡ f k)
+      → held_by_attempts configs n key (log ++ e ∷ []) + one (a.key.0 == key.0) ≡ held_by_attempts configs n key log + one (is_attempt_of key (attempts_of configs (log ++ e ∷ []) n i))
+  holds_changed i a stands others =
       ap (λ b. held_by_attempts configs n key (log ++ e ∷ []) + one b) (sym (ap (is_attempt_of key) stands))
-      ∙ count_changed (length log) (length (log ++ e ∷ [])) (longer log e) p q (ap (is_attempt_of key) none) i (is_attempt_of key o)
-      (stands_before configs n log i a stands)
-      (λ k. ap (is_attempt_of key) (attempts_of-append configs log e n k ∙ h k) ∙ test_cond (is_attempt_of key) (k == i) o (f k))
+      ∙ count_changed (length log) (length (log ++ e ∷ [])) (longer log e) p q (ap (is_attempt_of key) none) i (q i) (stands_before configs n log i a stands) (at_one i others)

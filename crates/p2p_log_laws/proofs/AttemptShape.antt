@@ -2,6 +2,7 @@
 -- that an attempt drops.
 use Rattle.std.proofs.Common.{◌≡◌, ℕ, Bool, true, false, cond, List, [], ◌∷◌, ◌++◌, map, length, Option, Some, None, inl, inr, refl, ap, ◌∙◌}
 use Rattle.std.specs.Prelude.{slice_get, ◌||◌, nat_le, is_some}
+use Rattle.p2p_log_rules.proofs.Bools.{or_true}
 use Rattle.p2p_base.specs.declared.key.Key.{Key}
 use Rattle.p2p_address.specs.declared.ip.SocketAddr.{SocketAddr}
 use Rattle.p2p_address.specs.declared.peer.Ingress.{Ingress}
@@ -28,15 +29,11 @@ use Rattle.p2p_log_rules.specs.Puts.{gave_up}
 use Rattle.p2p_log_rules.specs.Effect.{entry_of}
 use Rattle.p2p_log_rules.specs.Facts.{is_up, key_at, taken}
 use Rattle.p2p_log_rules.specs.Rows.{only, is_spawner_full}
-use Rattle.p2p_log_rules.specs.Attempting.{Attempt, dial_rules_at, attempts_of, resolved, given_up_row, gone_on_row, resolved_row, ready_row, link_of, took_row, attempt_turn, attempt_by, attempt_row, told_row, resolve_by, resolve_row, link_item, answered_row, refuse_row, connected_row, connect_row}
+use Rattle.p2p_log_rules.specs.Attempting.{Attempt, dial_rules_at, attempts_of, resolved, given_up_row, gone_on_row, resolved_row, ready_row, link_of, attempt_took_row, attempt_turn, attempt_by, attempt_row, attempt_told_row, resolve_by, resolve_row, link_item, dial_answered_row, refuse_row, connected_row, connect_row}
 use Rattle.p2p_log_laws.proofs.Reaching.{in_flight, writes, ends_in}
 use Rattle.p2p_log_laws.proofs.DropShape.{attempt_aside, dropping_shape}
 use Rattle.p2p_log_laws.proofs.LineShape.{Within, still_within, ended_within, asking_within}
 use Rattle.p2p_log_laws.proofs.Shape.{Shape, IsQuiet, quiet_laws, still, no_moves}
-
-or_true : (b : Bool) → (b || true) ≡ true
-or_true true = refl
-or_true false = refl
 
 -- ---- its step
 
@@ -75,7 +72,7 @@ module _ (configs : List Config) (log : List Entry) (e n : ℕ) where
   resolved_within (Some b) key x rest first = taken_within x rest first
 
   took_within : (full private : Bool) (seed : ℕ) (b : Attempt) (x : Envelope) (rest : List Envelope) → line log q ≡ x ∷ rest → (i : Item)
-      → Within configs log a q (took_row n full private seed b (name_of x) i rest)
+      → Within configs log a q (attempt_took_row n full private seed b (name_of x) i rest)
   took_within full private seed b x rest first (item.Resolved addresses) = resolved_within (resolved b.address private addresses seed b) b.key x rest first
   took_within full private seed b x rest first item.Linked = taken_within x rest first
   took_within full private seed b x rest first (item.Finished true) = ready_within full b.key (link_of b.answer) x rest first
@@ -130,9 +127,9 @@ module _ (configs : List Config) (log : List Entry) (e n : ℕ) where
 -- ---- what it is told
 
 module _ (configs : List Config) (log : List Entry) (a : Act) (e n : ℕ) (none : (r : Reply) → keys_sent (sending_of a r) ≡ []) (near : writes configs log a (queue.Attempt n e) ≡ true) where
-  told_shape : (i : Item) → IsQuiet (queue.Attempt n e, i) → Shape configs log a (told_row e n i)
+  told_shape : (i : Item) → IsQuiet (queue.Attempt n e, i) → Shape configs log a (attempt_told_row e n i)
   told_shape i quiet =
-      let r : Row = told_row e n i in
+      let r : Row = attempt_told_row e n i in
       record {
         moves = no_moves log r refl refl;
         reach = record { taken = tt; ended = tt; puts = (near, tt) };
@@ -148,7 +145,7 @@ module _ (configs : List Config) (log : List Entry) (a : Act) (e n : ℕ) (none 
   link_quiet true = (refl, refl)
   link_quiet false = (refl, refl)
 
-  answered_shape : (o : Option SocketAddr) (b links : Bool) → Shape configs log a (answered_row o b links e n)
+  answered_shape : (o : Option SocketAddr) (b links : Bool) → Shape configs log a (dial_answered_row o b links e n)
   answered_shape None b links = still configs log a reply.Pending (none reply.Pending) refl
   answered_shape (Some s) true links = still configs log a reply.Gone (none reply.Gone) refl
   answered_shape (Some s) false links = told_shape (link_item links) (link_quiet links)
@@ -163,7 +160,7 @@ resolve_shape configs log addresses e n = by_attempt (attempts_of configs log n 
 pub refuse_shape : (configs : List Config) (log : List Entry) (e n : ℕ) → Shape configs log (act.Refuse e n) (refuse_row configs log e n)
 refuse_shape configs log e n = by_attempt (attempts_of configs log n e)
   where
-    by_attempt : (o : Option Attempt) → Shape configs log (act.Refuse e n) (elim o [ None ↦ only reply.Gone | Some a ↦ answered_row a.address (is_some a.answer) false e n ])
+    by_attempt : (o : Option Attempt) → Shape configs log (act.Refuse e n) (elim o [ None ↦ only reply.Gone | Some a ↦ dial_answered_row a.address (is_some a.answer) false e n ])
     by_attempt None = still configs log (act.Refuse e n) reply.Gone refl refl
     by_attempt (Some a) = answered_shape configs log (act.Refuse e n) e n (λ r. refl) (same_queue-refl (queue.Attempt n e)) a.address (is_some a.answer) false
 

@@ -1,6 +1,6 @@
 -- A tracker is told of each connection once: what waits to be taken and what was taken of it is one message at most.
-use Rattle.std.proofs.Common.{◌≡◌, ℕ, ◌+◌, ◌≤◌, List, [], ◌∷◌, ◌++◌, refl, sym, subst, arith, eq-eqb}
-use Rattle.std.specs.Prelude.{count_by}
+use Rattle.std.proofs.Common.{◌≡◌, ℕ, ◌+◌, ◌≤◌, List, [], ◌∷◌, ◌++◌, refl, ap, sym, subst, ◌∙◌, arith, eq-eqb}
+use Rattle.std.specs.Prelude.{◌||◌, count_by}
 use Rattle.p2p_log.specs.declared.config.Config.{Config}
 use Rattle.p2p_log.specs.declared.entry.Entry.{Entry}
 use Rattle.p2p_log.specs.declared.event.Event.{Event}
@@ -13,7 +13,7 @@ use Rattle.p2p_log_rules.specs.Lawful.{IsLawful}
 use Rattle.p2p_log_rules.specs.Told.{told}
 use Rattle.p2p_log_rules.specs.Tracking.{calls_of}
 use Rattle.p2p_log_rules.proofs.Calls.{calls_of-append}
-use Rattle.p2p_log_rules.proofs.Connections.{is_begun-append}
+use Rattle.p2p_log_rules.proofs.Connections.{begins_is, is_begun-append}
 use Rattle.p2p_log_laws.specs.Grants.{one}
 use Rattle.p2p_log_laws.proofs.BegunCalls.{was_called, each_called}
 use Rattle.p2p_log_laws.proofs.BegunPuts.{tells_begun, each_begins}
@@ -48,7 +48,7 @@ module _ (configs : List Config) (n conn : ℕ) where
       (each_called conn configs n before ev r shape.moves shape.reach (eq-eqb n n refl))
       in
       let begins : one (is_begun before n conn) + count_by (tells_begun n conn) r.puts ≤ one (is_begun (before ++ entry_of ev r ∷ []) n conn) =
-      subst (λ b. one (is_begun before n conn) + count_by (tells_begun n conn) r.puts ≤ one b) (sym (is_begun-append before (entry_of ev r) n conn))
+      subst (λ b. one (is_begun before n conn) + count_by (tells_begun n conn) r.puts ≤ one b) (sym (is_begun-append before (entry_of ev r) n conn ∙ ap (λ b. is_begun before n conn || b) (begins_is before (entry_of ev r) n conn)))
       (each_begins n conn before configs ev.at ev.seed ev.act told.standing.fitting)
       in
       counted (w (live before)) (one (was_called conn (calls_of configs before n))) (w shape.moves.taken) (w shape.moves.ended) (count_by (tells_begun n conn) r.puts)

@@ -1,9 +1,9 @@
 -- What an entry tells the trackers of connections that begin: of each that it begins it tells once, and of no other.
-use Rattle.std.proofs.Common.{◌≡◌, ℕ, ◌+◌, ◌≤◌, Bool, true, false, cond, List, [], ◌∷◌, map, Option, Some, None, inl, inr, refl, ap, sym, subst, ◌∙◌, arith, eqb-true}
+use Rattle.std.proofs.Common.{◌≡◌, ℕ, ◌+◌, ◌≤◌, Bool, true, false, cond, List, [], ◌∷◌, map, Option, Some, None, inl, inr, refl, ap, sym, subst, ◌∙◌, arith, eq-eqb}
 use Rattle.std.specs.Prelude.{◌==◌, ◌&&◌, ◌||◌, nat_lt, count_by}
 use Rattle.std.specs.List.{AllByRecursion as Each}
-use Rattle.std.proofs.lemmas.Bool.{and_parts}
 use Rattle.std.proofs.lemmas.List.Sums.{sum_by-cons}
+use Rattle.p2p_log_rules.proofs.Bools.{and_false}
 use Rattle.p2p_base.specs.declared.key.Key.{Key}
 use Rattle.p2p_log.specs.declared.config.Config.{Config}
 use Rattle.p2p_log.specs.declared.queue.Queue.{Queue}
@@ -24,15 +24,15 @@ use Rattle.p2p_log.specs.Lines.{live, line}
 use Rattle.p2p_log.proofs.Each.{Each-weaker, count_by-none}
 use Rattle.p2p_log_rules.specs.declared.row.Half.{Half}
 use Rattle.p2p_log_rules.specs.declared.row.Row.{Row}
-use Rattle.p2p_log_rules.specs.Connections.{live_half, steps_sender, is_done, is_begun, is_running}
-use Rattle.p2p_log_rules.specs.Effect.{row, only, takes_oldest, write_row, batch_size_at, beside_ping, batch, written_row, told_row, running_row, begin_row, half_row, sender_row, send_step_row}
+use Rattle.p2p_log_rules.proofs.Connections.{steps_sender, sender_is}
+use Rattle.p2p_log_rules.specs.Connections.{live_half, is_done, is_begun, is_running}
+use Rattle.p2p_log_rules.specs.Effect.{row, only, takes_oldest, write_row, batch_size_at, beside_ping, batch, written_row, told_to_end_row, running_row, begin_row, half_row, sender_row, send_step_row}
 use Rattle.p2p_log_rules.specs.Dropping.{other_side, is_dropped}
 use Rattle.p2p_log_rules.specs.Ending.{end_row}
 use Rattle.p2p_log_rules.specs.Pings.{ping_frame, ping_is_due}
 use Rattle.p2p_log_rules.specs.Facts.{is_up}
 use Rattle.p2p_log_laws.specs.Grants.{one}
 use Rattle.p2p_log_laws.proofs.Fitting.{StandsFit, is_idle}
-use Rattle.p2p_log_laws.proofs.Plain.{and_false}
 use Rattle.p2p_log_laws.proofs.Shape.{Shape, Origin, OfAct, OfItem, Moved-origins}
 use Rattle.p2p_log_laws.proofs.Shapes.{row_shape}
 
@@ -143,7 +143,7 @@ module _ (n conn : ℕ) (log : List Entry) where
   goes_on a half false false (y ∷ ys) = written_silent a (queue.Link half.link half.writes) false (y ∷ ys) refl
   goes_on a half false true ys = written_silent a (queue.Link half.link half.writes) true ys refl
 
-  told_begins : (a : Act) (half : Half) (xs : List Envelope) (room : Bool) (r : Row) → BeginsOnce a r → BeginsOnce a (told_row log n conn half xs room r)
+  told_begins : (a : Act) (half : Half) (xs : List Envelope) (room : Bool) (r : Row) → BeginsOnce a r → BeginsOnce a (told_to_end_row log n conn half xs room r)
   told_begins a half [] room r h = h
   told_begins a half (x ∷ xs) true r h = last_begins a half ended.Killed cause.ConnectionEnded (x ∷ [])
   told_begins a half (x ∷ xs) false r h = h
@@ -174,22 +174,10 @@ module _ (n conn : ℕ) (log : List Entry) where
 
   -- ---- each act
 
-  step_begins : (configs : List Config) (at m e : ℕ) → (m == n) ≡ true → (e == conn) ≡ true → BeginsOnce (act.SendStep e m) (send_step_row configs log e m at)
-  step_begins configs at m e node half =
-      let same_node : m ≡ n = eqb-true m n node in
-      let same_half : e ≡ conn = eqb-true e conn half in
-      subst (λ k. BeginsOnce (act.SendStep e k) (send_step_row configs log e k at)) (sym same_node)
-      (subst (λ k. BeginsOnce (act.SendStep k n) (send_step_row configs log k n at)) (sym same_half)
-      (send_begins configs at (subst (λ k. (k == n) ≡ true) same_node node) (subst (λ k. (k == conn) ≡ true) same_half half)))
-
-  stepped_begins : (configs : List Config) (at seed : ℕ) (a : Act) → steps_sender n conn a ≡ true → BeginsOnce a (row configs log at seed a)
-  unfolding row
-  stepped_begins configs at seed (act.SendStep e m) steps = let both = and_parts (m == n) (e == conn) steps in step_begins configs at m e both.0 both.1
-  stepped_begins configs at seed _ steps = absurd (cc)
-
   pub each_begins : (configs : List Config) (at seed : ℕ) (a : Act) → Each StandsFit (live log) → BeginsOnce a (row configs log at seed a)
+  unfolding row
   each_begins configs at seed a fitting = by (steps_sender n conn a) refl
     where
       by : (b : Bool) → steps_sender n conn a ≡ b → BeginsOnce a (row configs log at seed a)
-      by true steps = stepped_begins configs at seed a steps
+      by true steps = subst (λ k. BeginsOnce k (row configs log at seed k)) (sym (sender_is n conn a steps)) (send_begins configs at (eq-eqb n n refl) (eq-eqb conn conn refl))
       by false other = other_begins configs a (row configs log at seed a) (row_shape configs log at seed a) fitting other

@@ -1,7 +1,7 @@
 -- The shapes of calls: register, start and receive.
 use Rattle.p2p_log_laws.proofs.OneShape.{spent_shape}
 use Rattle.p2p_log.specs.declared.event.Act.{Act}
-use Rattle.p2p_log_rules.specs.Reading.{reading_of, told, is_read}
+use Rattle.p2p_log_rules.specs.Reading.{reading_of, told_of_reading, is_read}
 use Rattle.p2p_log.specs.declared.entry.Reply.{Reply}
 use Rattle.p2p_log.specs.Sending.{sending_of, keys_sent}
 use Rattle.std.proofs.Common.{◌≡◌, ℕ, true, false, cond, List, [], ◌∷◌, map, Some, inl, refl, ap, sym, ◌∙◌}
@@ -53,10 +53,10 @@ start_shape configs log n =
 module _ (configs : List Config) (log : List Entry) (a : Act) (q : Queue) (reads_it : reading_of configs log a ≡ Some q) (read : reads configs log a q ≡ true)
     (none : (r : Reply) → keys_sent (sending_of a r) ≡ []) where
   carrying_shape : (x : Envelope) (rest : List Envelope) (i : Item) (copy : ℕ × ℕ) → line log q ≡ x ∷ rest → x.item ≡ i → copies_of i ≡ copy ∷ []
-      → ((other : ℕ × ℕ) → carries_copy other i ≡ same_name other copy) → is_read (told q i) ≡ true
-      → Shape configs log a (record { reply = told q i; takes = name_of x ∷ []; puts = []; ends = end.Copy copy.0 copy.1 outcome.Delivered ∷ [] })
+      → ((other : ℕ × ℕ) → carries_copy other i ≡ same_name other copy) → is_read (told_of_reading q i) ≡ true
+      → Shape configs log a (record { reply = told_of_reading q i; takes = name_of x ∷ []; puts = []; ends = end.Copy copy.0 copy.1 outcome.Delivered ∷ [] })
   carrying_shape x rest i copy first is carried alone says =
-      spent_shape configs log a (told q i) (none (told q i)) q x rest first read copy outcome.Delivered
+      spent_shape configs log a (told_of_reading q i) (none (told_of_reading q i)) q x rest first read copy outcome.Delivered
       (λ other. ap (carries_copy other) is ∙ alone other)
       (λ stand ev acts. record {
         queue = q;
@@ -66,7 +66,7 @@ module _ (configs : List Config) (log : List Entry) (a : Act) (q : Queue) (reads
         stood = first;
         takes = refl;
         carried = ap copies_of is ∙ carried;
-        tells = ap (told q) (sym is);
+        tells = ap (told_of_reading q) (sym is);
         says = says;
         ended = refl;
       })
@@ -76,7 +76,7 @@ module _ (configs : List Config) (log : List Entry) (a : Act) (q : Queue) (reads
         read = x;
         has = inl refl;
         in_queue = one_taken log q x rest first;
-        tells = ap (told q) (sym is);
+        tells = ap (told_of_reading q) (sym is);
         ended = sym (ap (λ cs. map (λ c. end.Copy c.0 c.1 outcome.Delivered) cs) (ap copies_of is ∙ carried));
       })
 

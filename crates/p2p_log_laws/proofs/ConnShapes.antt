@@ -211,7 +211,7 @@ module _ (configs : List Config) (log : List Entry) (conn n : ℕ) (half : Half)
   sender_ends : (why : Ended) (taken : List Envelope) → AreTaken (live log) taken → Each (λ x. reads configs log a x.queue ≡ true) taken
       → Each (λ x. Has (queues_with n conn half) x.queue) taken → Shape configs log a (end_row log n conn half why cause.ConnectionEnded taken)
   sender_ends why taken stood read own =
-      ended_shape configs log a n conn half lived (or_left ((n == n) && (conn == conn)) false (both n conn)) (λ r. refl) (with_in log n conn half at)
+      ended_shape configs log a n conn half lived true refl (λ r. refl) (with_in log n conn half at)
       (or_left (n == n) _ (eq-eqb n n refl)) (or_left (n == n) _ (eq-eqb n n refl)) why taken stood read own
 
   relayed_with : (priority : Bool) → Has (queues_with n conn half) (Effect.relay_queue priority n conn)
@@ -232,7 +232,7 @@ module _ (configs : List Config) (log : List Entry) (conn n : ℕ) (half : Half)
       (first_in (reads configs log a) log (queue.Control n conn) x rest first (or_left ((n == n) && (conn == conn)) false (both n conn)), tt)
       (subst (Has (queues_with n conn half)) (sym (one_taken log (queue.Control n conn) x rest first)) (inr (inr (inr (inl refl)))), tt)
 
-  told_shape : (xs : List Envelope) (room : Bool) (r : Row) → line log (queue.Control n conn) ≡ xs → Shape configs log a r → Shape configs log a (Effect.told_row log n conn half xs room r)
+  told_shape : (xs : List Envelope) (room : Bool) (r : Row) → line log (queue.Control n conn) ≡ xs → Shape configs log a r → Shape configs log a (Effect.told_to_end_row log n conn half xs room r)
   told_shape [] room r first s = s
   told_shape (x ∷ rest) true r first s = killed x rest first
   told_shape (x ∷ rest) false r first s = s

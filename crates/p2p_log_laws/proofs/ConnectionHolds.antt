@@ -8,10 +8,10 @@ use Rattle.p2p_log.specs.declared.entry.Entry.{Entry}
 use Rattle.p2p_log.specs.declared.event.Act.{Act}
 use Rattle.p2p_log.specs.declared.event.Act.TheVariants as act
 use Rattle.p2p_log_rules.specs.declared.row.Half.{Half}
-use Rattle.p2p_log_rules.specs.Connections.{steps_sender, steps_receiver, ends_connection, is_ended, live_connection, live_half}
+use Rattle.p2p_log_rules.specs.Connections.{ends_connection, is_ended, live_connection, live_half}
 use Rattle.p2p_log_rules.specs.Facts.{taken, with_begun}
 use Rattle.p2p_log_rules.specs.Spawning.{Spawned, steps_spawner, spawned_of, connections_of}
-use Rattle.p2p_log_rules.proofs.Connections.{ends_none-act, is_ended-append, is_ended-kept, HalfParts, half_parts, is_live, live_connection-kept}
+use Rattle.p2p_log_rules.proofs.Connections.{EndsNone, ends_untold, is_ended-append, is_ended-kept, HalfParts, half_parts, is_live, live_connection-kept}
 use Rattle.p2p_log_rules.proofs.Spawning.{connections_of-acted, connections_of-late}
 use Rattle.p2p_log_laws.specs.Grants.{one}
 use Rattle.p2p_log_laws.specs.NodeGrants.{count_below, is_connection_of}
@@ -71,13 +71,13 @@ module _ (n : ℕ) (key : Key) (log : List Entry) (e : Entry) where
       nothing false = refl
 
   -- none is made, and none ends
-  pub connections_kept : steps_spawner n e.event.act ≡ false → ((k : ℕ) → ends_connection n k e ≡ false) → held_by_connections n key (log ++ e ∷ []) ≡ held_by_connections n key log
+  pub connections_kept : steps_spawner n e.event.act ≡ false → ((k : ℕ) → ends_connection n k log e ≡ false) → held_by_connections n key (log ++ e ∷ []) ≡ held_by_connections n key log
   connections_kept other lives =
       count_kept (length log) (length (log ++ e ∷ [])) (longer log e) p q none
       (λ k. ap (is_connection_of key) (live_connection-kept log e n k (lives k) (connections_of-acted log e n false other k)))
 
   -- one ends, which has not ended
-  pub connections_ended : steps_spawner n e.event.act ≡ false → (conn : ℕ) → conn < length log → ((k : ℕ) → ends_connection n k e ≡ (conn == k))
+  pub connections_ended : steps_spawner n e.event.act ≡ false → (conn : ℕ) → conn < length log → ((k : ℕ) → ends_connection n k log e ≡ (conn == k))
       → held_by_connections n key (log ++ e ∷ []) + one (p conn) ≡ held_by_connections n key log
   connections_ended other conn early ends =
       count_changed (length log) (length (log ++ e ∷ [])) (longer log e) p q none conn false early (λ k. after k) ∙ plus_none (held_by_connections n key log)
@@ -108,9 +108,9 @@ module _ (n : ℕ) (key : Key) (log : List Entry) (e : Entry) where
       made : Option Spawned
       made = spawned_of (taken log e)
 
-      no_half : (a : Act) (k : ℕ) → steps_spawner n a ≡ true → (steps_sender n k a || steps_receiver n k a) ≡ false
-      no_half (act.Spawner m) k h = refl
-      no_half _ k h = absurd (cc)
+      no_half : (a : Act) → steps_spawner n a ≡ true → EndsNone a
+      no_half (act.Spawner m) h = refl
+      no_half _ h = absurd (cc)
 
       by : (k : ℕ) (was now : Bool) → is_ended log n k ≡ was → (k == length log) ≡ now
           → is_connection_of key (cond was None (with_begun made (length log) f k)) ≡ cond now (is_connection_of key made) (is_connection_of key (cond was None (f k)))
@@ -121,5 +121,5 @@ module _ (n : ℕ) (key : Key) (log : List Entry) (e : Entry) where
       after : (k : ℕ) → q k ≡ cond (k == length log) (is_connection_of key made) (p k)
       after k =
           ap (λ b. is_connection_of key (cond b None (connections_of (log ++ e ∷ []) n k)))
-          (is_ended-kept log e n k (ends_none-act e n k e.event.act refl (no_half e.event.act k steps)))
+          (is_ended-kept log e n k (ends_untold log e n k e.event.act refl (no_half e.event.act steps)))
           ∙ (ap (λ o. is_connection_of key (cond (is_ended log n k) None o)) (connections_of-acted log e n true steps k) ∙ by k (is_ended log n k) (k == length log) refl refl)

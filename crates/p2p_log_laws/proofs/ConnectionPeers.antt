@@ -43,7 +43,7 @@ use Rattle.p2p_log_laws.proofs.Shapes.{row_shape}
 use Rattle.p2p_log_laws.proofs.Weighing.{taken_items}
 
 -- all that is known of links, which each entry keeps
-record AreLed (configs : List Config) (log : List Entry) : Type 0 where
+pub record AreLed (configs : List Config) (log : List Entry) : Type 0 where
   pub say : Each (StandSays configs log) (live log)
   pub come : PeersCome configs log
   pub opened : AreOpened configs log
@@ -124,5 +124,8 @@ led_more configs log ev led = record {
   connections = connections_more configs log ev led;
 }
 
+pub are_led : (configs : List Config) (script : List Event) (log : List Entry) → IsLawful configs script log → AreLed configs log
+are_led configs script log lawful = at_end configs (AreLed configs) (led_first configs) (led_more configs) script log lawful
+
 pub connections_lead : (configs : List Config) (script : List Event) (log : List Entry) → IsLawful configs script log → ConnectionsLead configs log
-connections_lead configs script log lawful = (at_end configs (AreLed configs) (led_first configs) (led_more configs) script log lawful).connections
+connections_lead configs script log lawful = (are_led configs script log lawful).connections

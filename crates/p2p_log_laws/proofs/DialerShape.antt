@@ -16,7 +16,7 @@ use Rattle.p2p_log.specs.Lines.{name_of, line}
 use Rattle.p2p_log_rules.specs.declared.row.Row.{Row}
 use Rattle.p2p_log_rules.specs.Facts.{is_up}
 use Rattle.p2p_log_rules.specs.Rows.{only}
-use Rattle.p2p_log_rules.specs.Dialing.{Dials, dials_of, in_drawn_order, last_key, dial_puts, dials_row, answered_row, due_row, dialer_turn, dialer_row}
+use Rattle.p2p_log_rules.specs.Dialing.{Dials, dials_of, in_drawn_order, last_key, dial_puts, dials_row, answer_taken_row, due_row, dialer_turn, dialer_row}
 use Rattle.p2p_log.proofs.Queues.{same_queue-refl}
 use Rattle.p2p_log_laws.proofs.Reaching.{writes}
 use Rattle.p2p_log_laws.proofs.LineShape as shapes
@@ -51,7 +51,7 @@ module _ (configs : List Config) (log : List Entry) (n : ℕ) where
   dials_shape : (x : Envelope) (rest : List Envelope) → line log (queue.Dialer n) ≡ x ∷ rest → (peers : List Key) → Shape configs log (act.Dialer n) (dials_row n (name_of x ∷ []) peers)
   dials_shape x rest first peers = taken_shape x rest (dial_puts n (last_key peers)) first (quiet_dial (last_key peers)) (near_dial (last_key peers))
 
-  answered_shape : (seed : ℕ) (d : Dials) (x : Envelope) (rest : List Envelope) → line log (queue.Dialer n) ≡ x ∷ rest → (i : Item) → Shape configs log (act.Dialer n) (answered_row n seed d (name_of x) i)
+  answered_shape : (seed : ℕ) (d : Dials) (x : Envelope) (rest : List Envelope) → line log (queue.Dialer n) ≡ x ∷ rest → (i : Item) → Shape configs log (act.Dialer n) (answer_taken_row n seed d (name_of x) i)
   answered_shape seed d x rest first (item.Dialable next peers) = dials_shape x rest first (in_drawn_order seed peers)
   answered_shape seed d x rest first (item.Dial None) = dials_shape x rest first d.peers
   answered_shape seed d x rest first (item.Dial (Some grant)) = taken_shape x rest [] first tt tt

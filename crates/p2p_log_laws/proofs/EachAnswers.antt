@@ -22,13 +22,13 @@ module _ (w : Words) (sound : (w.acceptance && w.refusal) ≡ false) (n name : �
 
   pub each_answers : (a : Act) → Answers w n name log (event a) (row configs log at seed a)
   unfolding row
-  each_answers (act.SendStep conn m) = puts_none w n name configs log at seed (act.SendStep conn m) (send_step_row configs log conn m at) (row_shape configs log at seed (act.SendStep conn m)) (sender_silent w n name configs log at seed conn m) refl
-  each_answers (act.RecvStep conn m) = puts_none w n name configs log at seed (act.RecvStep conn m) (recv_step_row configs log conn m at) (row_shape configs log at seed (act.RecvStep conn m)) (receiver_silent w n name configs log at seed conn m) refl
-  each_answers (act.Ask what m) = puts_none w n name configs log at seed (act.Ask what m) (rows.ask_row configs log m what) (row_shape configs log at seed (act.Ask what m)) (ask_silent w n name configs log at seed what m) refl
+  each_answers (act.SendStep conn m) = puts_none w n name configs log at seed (act.SendStep conn m) (send_step_row configs log conn m at) (row_shape configs log at seed (act.SendStep conn m)) (sender_silent w n name configs log at seed conn m) (λ so. cc)
+  each_answers (act.RecvStep conn m) = puts_none w n name configs log at seed (act.RecvStep conn m) (recv_step_row configs log conn m at) (row_shape configs log at seed (act.RecvStep conn m)) (receiver_silent w n name configs log at seed conn m) (λ so. cc)
+  each_answers (act.Ask what m) = puts_none w n name configs log at seed (act.Ask what m) (rows.ask_row configs log m what) (row_shape configs log at seed (act.Ask what m)) (ask_silent w n name configs log at seed what m) (λ so. cc)
   each_answers (act.Tracker m) = tracker_at w n name configs log at seed m (m == n) refl
-  each_answers (act.Dialer m) = puts_none w n name configs log at seed (act.Dialer m) (dialer_row configs log m at seed) (row_shape configs log at seed (act.Dialer m)) (dialer_silent w n name configs log at seed m) refl
-  each_answers (act.Attempt e m) = puts_none w n name configs log at seed (act.Attempt e m) (attempt_step_row configs log e m at seed) (row_shape configs log at seed (act.Attempt e m)) (attempt_silent w n name configs log at seed e m) refl
+  each_answers (act.Dialer m) = puts_none w n name configs log at seed (act.Dialer m) (dialer_row configs log m at seed) (row_shape configs log at seed (act.Dialer m)) (dialer_silent w n name configs log at seed m) (λ so. cc)
+  each_answers (act.Attempt e m) = puts_none w n name configs log at seed (act.Attempt e m) (attempt_step_row configs log e m at seed) (row_shape configs log at seed (act.Attempt e m)) (attempt_silent w n name configs log at seed e m) (λ so. cc)
   each_answers (act.Listener m) = listening w n name configs log at seed m (listener_asks w n name configs log at seed m)
   each_answers (act.Handshake k m) = handshake_answers w n name configs log at seed k m
   each_answers (act.Finish link ok) = finish_answers w sound n name configs log at seed link ok
-  each_answers a = other w n name configs log at seed a (row configs log at seed a) (row_shape configs log at seed a) refl refl refl
+  each_answers a = other w n name configs log at seed a (row configs log at seed a) (row_shape configs log at seed a) refl refl (λ so. cc)

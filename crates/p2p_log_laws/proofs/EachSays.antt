@@ -36,13 +36,13 @@ use Rattle.p2p_log_rules.specs.declared.row.Opening.{Opening}
 use Rattle.p2p_log_rules.specs.declared.row.ListeningEnd.{ListeningEnd}
 use Rattle.p2p_log_rules.specs.declared.row.ListeningEnd.TheVariants as listening
 use Rattle.p2p_log_rules.specs.declared.row.Row.{Row}
-use Rattle.p2p_log_rules.specs.Attempting.{Attempt, dial_rules_at, attempts_of, resolved, given_up_row, resolved_row, ready_row, link_of, took_row, attempt_turn, attempt_by, attempt_row, resolve_by, resolve_row, refuse_row, connect_row}
+use Rattle.p2p_log_rules.specs.Attempting.{Attempt, dial_rules_at, attempts_of, resolved, given_up_row, resolved_row, ready_row, link_of, attempt_took_row, attempt_turn, attempt_by, attempt_row, resolve_by, resolve_row, refuse_row, connect_row}
 use Rattle.p2p_log_rules.specs.Dropping.{dialing_end, attempt_step_row, handshake_step_row}
 use Rattle.p2p_log_rules.specs.Puts.{gave_up, broke_off}
 use Rattle.p2p_log_rules.specs.Effect.{effect, row}
 use Rattle.p2p_log_rules.specs.Facts.{is_up, key_at}
 use Rattle.p2p_log_rules.specs.Handshakes.{is_handshaking, is_finished, source_at, peer_at}
-use Rattle.p2p_log_rules.specs.Handshaking.{handshake_deadline, took_row as handshake_took_row, is_due, handshake_turn, handshake_row}
+use Rattle.p2p_log_rules.specs.Handshaking.{handshake_deadline, handshake_took_row, is_due, handshake_turn, handshake_row}
 use Rattle.p2p_log_rules.specs.Links.{openings_of, listening_ends_of, is_dialed, accepts, exchanged, dialing_puts, listening_puts, finished_row, verdict, finish_by, finish_row}
 use Rattle.p2p_log_rules.specs.Rows.{only, is_spawner_full}
 use Rattle.p2p_log_rules.specs.Tracking.{key_cmp, rules_at, asked_by, calls_of, update_subscriptions, blocked_subscriptions}
@@ -161,7 +161,7 @@ module _ (configs : List Config) (log : List Entry) where
 
       step_says : (b : Bool) → Each P
           (cond b
-          (rows.told_row log [] (puts.unblocked_puts (rules_at configs n) n at (update_subscriptions log n) (blocked_subscriptions log n) (calls_of configs log n) (call.UnblockExpired at)))
+          (rows.tracker_told_row log [] (puts.unblocked_puts (rules_at configs n) n at (update_subscriptions log n) (blocked_subscriptions log n) (calls_of configs log n) (call.UnblockExpired at)))
           (rows.served_row configs log n at (line log (queue.Tracker n)))).puts
       step_says true = each_unblocked n P kinds_say (rules_at configs n) at (update_subscriptions log n) (blocked_subscriptions log n) (calls_of configs log n) (call.UnblockExpired at)
       step_says false = oldest_says (line log (queue.Tracker n)) refl
@@ -219,7 +219,7 @@ module _ (configs : List Config) (log : List Entry) where
       resolved_says None name left = (tt, tt)
       resolved_says (Some b) name left = tt
 
-      tried_says : (full private : Bool) (name : ℕ × ℕ) (i : Item) (left : List Envelope) → Says configs log (queue.Attempt n e) i → Each P (took_row n full private seed a name i left).puts
+      tried_says : (full private : Bool) (name : ℕ × ℕ) (i : Item) (left : List Envelope) → Says configs log (queue.Attempt n e) i → Each P (attempt_took_row n full private seed a name i left).puts
       tried_says full private name (item.Resolved addresses) left says = resolved_says (resolved a.address private addresses seed a) name left
       tried_says full private name item.Linked left says = tt
       tried_says full private name (item.Finished true) left says = ready_says n full a.key (link_of a.answer) name left (dialed_leads says)

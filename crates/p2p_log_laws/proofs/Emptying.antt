@@ -3,6 +3,7 @@ use Rattle.std.proofs.Common.{◌≡◌, ℕ, Bool, true, false, List, [], ◌�
 use Rattle.std.specs.Prelude.{filter, flat_map, not, ◌||◌, count_by, Option}
 use Rattle.std.specs.List.{AllByRecursion as Each, list_any}
 use Rattle.std.proofs.lemmas.List.{map-append}
+use Rattle.p2p_log_rules.proofs.Bools.{or_true}
 use Rattle.p2p_log.specs.declared.queue.Queue.{Queue}
 use Rattle.p2p_log.specs.declared.item.Item.{Item}
 use Rattle.p2p_log.specs.declared.item.Envelope.{Envelope}
@@ -37,10 +38,6 @@ named_any name (z ∷ ys) y h e = elim h [
   | inl is ↦ ap (λ b. b || list_any (same_name name) (map name_of ys)) (ap (same_name name) (ap name_of is ∙ e) ∙ same_name-refl name)
   | inr l ↦ ap (λ b. same_name name (name_of z) || b) (named_any name ys y l e) ∙ or_true (same_name name (name_of z))
 ]
-  where
-    or_true : (b : Bool) → (b || true) ≡ true
-    or_true true = refl
-    or_true false = refl
 
 all_gone : (ys : List Envelope) → filter (stays (map name_of ys)) ys ≡ []
 all_gone ys =

@@ -1,6 +1,7 @@
 -- Who hands a link to a spawner: an attempt that the link answered, or a handshake whose peer came over it, and either ends by that.
 use Rattle.std.proofs.Common.{◌≡◌, ℕ, suc, zero, Bool, true, false, cond, List, [], ◌∷◌, ◌++◌, length, Option, Some, None, ◌⊎◌, inl, inr, refl, ap, sym, subst, ◌∙◌, append-nil, eq-eqb}
-use Rattle.std.specs.Prelude.{◌==◌, ◌&&◌, not, flat_map, map, nat_le, slice_get, take}
+use Rattle.std.specs.Prelude.{◌&&◌, ◌||◌, not, flat_map, map, nat_le, slice_get, take}
+use Rattle.std.specs.List.{list_any}
 use Rattle.std.proofs.lemmas.Bool.{false≢true}
 use Rattle.std.proofs.lemmas.Option.{same_Some}
 use Rattle.p2p_base.specs.declared.key.Key.{Key}
@@ -21,20 +22,22 @@ use Rattle.p2p_log.specs.Lines.{name_of, line}
 use Rattle.p2p_log.proofs.Each.{Each-has, Has-get}
 use Rattle.p2p_log_rules.specs.declared.row.Opening.{Opening}
 use Rattle.p2p_log_rules.specs.declared.row.Row.{Row}
-use Rattle.p2p_log_rules.specs.Attempting.{Attempt, DialRules, dial_rules_at, resolved, attempts_of, given_up_row, resolved_row, ready_row, link_of, took_row, attempt_turn, attempt_by, attempt_row}
-use Rattle.p2p_log_rules.proofs.Attempts.{stepped_attempt, and_then, acted_attempts}
+use Rattle.p2p_log_rules.specs.Attempting.{Attempt, dial_rules_at, resolved, attempts_of, given_up_row, resolved_row, ready_row, link_of, attempt_took_row, attempt_turn, attempt_by, attempt_row}
+use Rattle.p2p_log_rules.proofs.Attempts.{attempt_told}
+use Rattle.p2p_log_rules.proofs.AttemptTellings.{attempts_of-stepped}
 use Rattle.p2p_log_rules.specs.Dropping.{LinkEnd, dropping, dialing_end, attempt_step_row, handshake_step_row}
-use Rattle.p2p_log_rules.specs.Puts.{gave_up, broke_off}
+use Rattle.p2p_log_rules.specs.Puts.{is_spawn, gave_up, broke_off}
+use Rattle.p2p_log_rules.specs.Told.{took_tells}
 use Rattle.p2p_log_rules.specs.Effect.{effect, row, entry_of}
 use Rattle.p2p_log_rules.specs.Facts.{item_named, taken}
-use Rattle.p2p_log_rules.specs.Handshakes.{acted_handshakes, handshakes_of, is_handshaking, is_finished, ends_handshake, unless_ended, Peer, peer_at}
+use Rattle.p2p_log_rules.specs.Handshakes.{handshakes_of, is_handshaking, is_finished, ends_handshake, Peer, peer_at}
 use Rattle.p2p_log_rules.specs.Handshaking as shaking
 use Rattle.p2p_log_rules.specs.Links.{openings_of}
 use Rattle.p2p_log_rules.specs.Rows.{only, is_spawner_full}
-use Rattle.p2p_log_rules.proofs.Trying.{attempts_of-effect}
-use Rattle.p2p_log_rules.proofs.Handshakes.{is_among, among-without, handshakes_of-append}
+use Rattle.p2p_log_rules.proofs.Handshakes.{without_name, handshakes_of-shaken, is_among, among-without}
 use Rattle.p2p_log_rules.proofs.Recorded.{item_named-first}
 use Rattle.p2p_log_rules.proofs.Touches.{in_ends}
+use Rattle.p2p_log_laws.proofs.EndWays.{or_more}
 use Rattle.p2p_log_laws.proofs.Reaching.{writes}
 use Rattle.p2p_log_laws.proofs.Shapes.{row_shape}
 
@@ -113,7 +116,7 @@ module _ (log : List Entry) (n : ℕ) where
       resolved_hands None name left = given_up_hands IsFinish m (link_of a.answer) a.key (name ∷ []) left
       resolved_hands (Some b) name left = λ p i put. absurd (no_put p i put)
 
-      took_hands : (full private : Bool) (name : ℕ × ℕ) (i : Item) (left : List Envelope) → item_named log name ≡ i ∷ [] → AttemptHands (took_row m full private seed a name i left)
+      took_hands : (full private : Bool) (name : ℕ × ℕ) (i : Item) (left : List Envelope) → item_named log name ≡ i ∷ [] → AttemptHands (attempt_took_row m full private seed a name i left)
       took_hands full private name (item.Resolved addresses) left named = resolved_hands (resolved a.address private addresses seed a) name left
       took_hands full private name item.Linked left named = λ p i put. absurd (no_put p i put)
       took_hands full private name (item.Finished true) left named = ready_hands IsFinish m (link_of a.answer) full a.key name left (item.Finished true) named refl
@@ -160,7 +163,7 @@ module _ (log : List Entry) (n : ℕ) where
     abbrev peer : Peer
     peer = peer_at log k
 
-    heard_hands : (full : Bool) (name : ℕ × ℕ) (i : Item) (left : List Envelope) → item_named log name ≡ i ∷ [] → Hands IsListen m peer.link (shaking.took_row m full k peer name i left)
+    heard_hands : (full : Bool) (name : ℕ × ℕ) (i : Item) (left : List Envelope) → item_named log name ≡ i ∷ [] → Hands IsListen m peer.link (shaking.handshake_took_row m full k peer name i left)
     heard_hands full name (item.Acceptable true) left named = λ p i put. absurd (no_put p i put)
     heard_hands full name (item.Acceptable false) left named = λ p i put. absurd (no_put p i put)
     heard_hands full name (item.Finished true) left named = λ p i put. absurd (other_put (queue.Tracker m) (item.AskListen k peer.key) (λ e. cc) p i put)
@@ -201,24 +204,25 @@ module _ (log : List Entry) (n : ℕ) where
 
 -- ---- so it ends
 
-attempt_ends : (rules : DialRules) (n m at seed k : ℕ) (r : Reply) (items : List Item) (puts : List (Queue × Item)) (f : ℕ → Option Attempt) → r ≡ reply.Ok → items ≡ item.Finished true ∷ []
-    → acted_attempts rules n m at seed r items puts (act.Attempt k n) f k ≡ None
-attempt_ends rules n m at seed k r items puts f ok word =
-    ap (λ b. cond b (cond (k == k) (and_then (stepped_attempt rules at seed r items) (f k)) (f k)) (f k)) (eq-eqb n n refl)
-    ∙ (ap (λ b. cond b (and_then (stepped_attempt rules at seed r items) (f k)) (f k)) (eq-eqb k k refl)
-    ∙ (ap (λ x. and_then (stepped_attempt rules at seed x items) (f k)) ok ∙ (ap (λ is. and_then (stepped_attempt rules at seed reply.Ok is) (f k)) word ∙ by (f k))))
-  where
-    by : (o : Option Attempt) → and_then (stepped_attempt rules at seed reply.Ok (item.Finished true ∷ [])) o ≡ None
-    by None = refl
-    by (Some a) = refl
+spawned : (puts : List (Queue × Item)) (q : Queue) (p : ℕ) (key : Key) (link : ℕ) → slice_get puts p ≡ Some (q, item.Spawn key link) → list_any is_spawn puts ≡ true
+spawned [] q p key link at = absurd (cc)
+spawned (x ∷ xs) q zero key link at = ap (λ y. is_spawn y || list_any is_spawn xs) (same_Some {A = Queue × Item} x (q, item.Spawn key link) at)
+spawned (x ∷ xs) q (suc p) key link at = or_more (is_spawn x) (list_any is_spawn xs) (spawned xs q p key link at)
 
-handshake_ends : (n m h : ℕ) (r : Reply) (items : List Item) (key : Key) (names : List ℕ) → r ≡ reply.Ok → items ≡ item.Listen (Some key) ∷ []
-    → is_among h (acted_handshakes n m r items (act.Handshake h n) names) ≡ false
-handshake_ends n m h r items key names ok word =
-    ap (λ b. is_among h (cond b (unless_ended (ends_handshake r items) h names) names)) (eq-eqb n n refl)
-    ∙ (ap (λ x. is_among h (unless_ended (ends_handshake x items) h names)) ok
-    ∙ (ap (λ is. is_among h (unless_ended (ends_handshake reply.Ok is) h names)) word
-    ∙ (among-without h h names ∙ ap (λ b. not b && is_among h names) (eq-eqb h h refl))))
+-- an attempt, by what it put
+attempt_ends : (configs : List Config) (log : List Entry) (e : Entry) (n k p : ℕ) (q : Queue) (key : Key) (link : ℕ) → e.event.act ≡ act.Attempt k n → slice_get e.puts p ≡ Some (q, item.Spawn key link)
+    → attempts_of configs (log ++ e ∷ []) n k ≡ None
+attempt_ends configs log e n k p q key link is at =
+    attempts_of-stepped configs log e n k is
+    ∙ ap (λ b. cond b None (attempt_told (dial_rules_at configs n) n k (took_tells n k e.event.at e.event.seed (taken log e)) (attempts_of configs log n k))) (or_more (gave_up e.puts) (list_any is_spawn e.puts) (spawned e.puts q p key link at))
+
+handshake_ends : (log : List Entry) (e : Entry) (n h : ℕ) (key : Key) → e.event.act ≡ act.Handshake h n → e.reply ≡ reply.Ok → taken log e ≡ item.Listen (Some key) ∷ [] → is_handshaking (log ++ e ∷ []) n h ≡ false
+handshake_ends log e n h key acts ok word =
+    ap (is_among h)
+    (handshakes_of-shaken log e n h acts
+    ∙ (ap (λ r. cond (ends_handshake r (taken log e)) (without_name h (handshakes_of log n)) (handshakes_of log n)) ok
+    ∙ ap (λ is. cond (ends_handshake reply.Ok is) (without_name h (handshakes_of log n)) (handshakes_of log n)) word))
+    ∙ (among-without h h (handshakes_of log n) ∙ ap (λ b. not b && is_handshaking log n h) (eq-eqb h h refl))
 
 -- an attempt of the node that this link answered hands it over, and ends
 pub record IsDialedOn (configs : List Config) (log : List Entry) (n link : ℕ) (e : Entry) : Type 0 where
@@ -252,11 +256,10 @@ module _ (configs : List Config) (log : List Entry) (ev : Event) (n : ℕ) where
   abbrev Given : Act → Type 0
   Given a = (p : ℕ) (i : Item) → slice_get (row configs log ev.at ev.seed a).puts p ≡ Some (queue.Spawner n, i) → HandsOn configs log n p i e
 
-  tried : (k m : ℕ) → ev.act ≡ act.Attempt k m → (p : ℕ) (i : Item) → AttemptHanding log n configs k m ev.at ev.seed p i (row configs log ev.at ev.seed ev.act) → HandsOn configs log n p i e
-  unfolding effect taken
-  tried k m acts p i h =
+  tried : (k m : ℕ) → ev.act ≡ act.Attempt k m → (p : ℕ) (i : Item) → slice_get e.puts p ≡ Some (queue.Spawner n, i) → AttemptHanding log n configs k m ev.at ev.seed p i (row configs log ev.at ev.seed ev.act) → HandsOn configs log n p i e
+  unfolding effect
+  tried k m acts p i put h =
       let g = h.handing in
-      let r : Row = row configs log ev.at ev.seed ev.act in
       let here : ev.act ≡ act.Attempt k n = acts ∙ ap (act.Attempt k) g.node in
       record {
         place = g.place;
@@ -269,10 +272,7 @@ module _ (configs : List Config) (log : List Entry) (ev : Event) (n : ℕ) where
           a = h.attempt;
           stood = subst (λ j. attempts_of configs log j k ≡ Some h.attempt) g.node h.stood;
           answered = refl;
-          gone =
-              attempts_of-effect configs log ev n k
-              ∙ (ap (λ a. acted_attempts (dial_rules_at configs n) n (length log) ev.at ev.seed r.reply (taken log (entry_of ev r)) r.puts a (attempts_of configs log n) k) here
-              ∙ attempt_ends (dial_rules_at configs n) n (length log) ev.at ev.seed k r.reply (taken log (entry_of ev r)) r.puts (attempts_of configs log n) g.ok (g.items ∙ ap (λ w. w ∷ []) g.such));
+          gone = attempt_ends configs log e n k p (queue.Spawner n) g.key (link_of h.attempt.answer) here (put ∙ ap (λ j. Some (queue.Spawner n, j)) g.is);
         });
       }
 
@@ -293,9 +293,7 @@ module _ (configs : List Config) (log : List Entry) (ev : Event) (n : ℕ) where
           runs = subst (λ j. is_handshaking log j k ≡ true) g.node h.runs;
           came = refl;
           gone =
-              ap (is_among k) (handshakes_of-append log (entry_of ev r) n)
-              ∙ (ap (λ a. is_among k (acted_handshakes n (length log) r.reply (taken log (entry_of ev r)) a (handshakes_of log n))) here
-              ∙ handshake_ends n (length log) k r.reply (taken log (entry_of ev r)) g.such.0 (handshakes_of log n) g.ok (g.items ∙ ap (λ w. w ∷ []) g.such.1));
+              handshake_ends log (entry_of ev r) n k g.such.0 here g.ok (g.items ∙ ap (λ w. w ∷ []) g.such.1);
         });
       }
 
@@ -310,8 +308,8 @@ module _ (configs : List Config) (log : List Entry) (ev : Event) (n : ℕ) where
   ends_aside (Some o) = refl
 
   given : (a : Act) → ev.act ≡ a → Given a
-  unfolding row
-  given (act.Attempt k m) acts p i put = tried k m acts p i (subst (λ a. AttemptHanding log n configs k m ev.at ev.seed p i (row configs log ev.at ev.seed a)) (sym acts) (attempt_hands log n configs k m ev.at ev.seed p i put))
+  unfolding row effect
+  given (act.Attempt k m) acts p i put = tried k m acts p i (subst (λ a. slice_get (row configs log ev.at ev.seed a).puts p ≡ Some (queue.Spawner n, i)) (sym acts) put) (subst (λ a. AttemptHanding log n configs k m ev.at ev.seed p i (row configs log ev.at ev.seed a)) (sym acts) (attempt_hands log n configs k m ev.at ev.seed p i put))
   given (act.Handshake k m) acts p i put = heard k m acts p i (subst (λ a. HandshakeHanding log n configs k m ev.at ev.seed p i (row configs log ev.at ev.seed a)) (sym acts) (handshake_hands log n configs k m ev.at ev.seed p i put))
   given (act.Finish link ok) acts p i put = aside (act.Finish link ok) (ends_aside (openings_of log link)) p i put
   given a acts p i put = aside a refl p i put

@@ -4,6 +4,7 @@ use Rattle.std.specs.Prelude.{◌==◌, ◌&&◌, ◌||◌, nat_lt, count_by, fi
 use Rattle.std.specs.List.{AllByRecursion as Each, list_any}
 use Rattle.std.proofs.lemmas.Bool.{and_parts, false≢true}
 use Rattle.std.proofs.lemmas.List.Sums.{sum_by-cons}
+use Rattle.p2p_log_rules.proofs.Bools.{and_false}
 use Rattle.p2p_base.specs.declared.key.Key.{Key}
 use Rattle.p2p_log.specs.declared.config.Config.{Config}
 use Rattle.p2p_log.specs.declared.queue.Queue.{Queue}
@@ -28,7 +29,7 @@ use Rattle.p2p_log.proofs.Taken.{Each-taken}
 use Rattle.p2p_log_rules.specs.declared.row.Half.{Half}
 use Rattle.p2p_log_rules.specs.declared.row.Opening.{Opening}
 use Rattle.p2p_log_rules.specs.declared.row.Row.{Row}
-use Rattle.p2p_log_rules.specs.Connections.{live_half, steps_sender, is_done, is_answer, answers_by, is_begun, is_running, is_ended}
+use Rattle.p2p_log_rules.specs.Connections.{live_half, is_done, is_answer, begins, runs, is_begun, has_run, is_running, is_ended}
 use Rattle.p2p_log_rules.specs.Dropping.{other_side, is_dropped}
 use Rattle.p2p_log_rules.specs.Effect
 use Rattle.p2p_log_rules.specs.Effect.{effect, row, entry_of, Spread, spread, row_of_spread, peers_put, mailbox_size_at}
@@ -40,7 +41,7 @@ use Rattle.p2p_log_rules.specs.Links.{openings_of}
 use Rattle.p2p_log_rules.specs.Moves.{Moves}
 use Rattle.p2p_log_rules.specs.Pings.{ping_frame, ping_is_due}
 use Rattle.p2p_log_rules.specs.Rows.{only, takes_oldest}
-use Rattle.p2p_log_rules.proofs.Connections.{is_begun-append, is_running-append}
+use Rattle.p2p_log_rules.proofs.Connections.{steps_sender, sender_is, begins_is, runs_is, is_begun-append, has_run-append}
 use Rattle.p2p_log_rules.proofs.Moves.{taken_stood}
 use Rattle.p2p_log_rules.proofs.Recorded.{item_named-first}
 use Rattle.p2p_log_rules.proofs.Touches.{in_ends}
@@ -50,7 +51,6 @@ use Rattle.p2p_log_laws.proofs.EndWays.{taken_one}
 use Rattle.p2p_log_laws.proofs.Fitting.{fits, StandsFit, is_idle}
 use Rattle.p2p_log_laws.proofs.HalfSteps.{IsStep, send_is}
 use Rattle.p2p_log_laws.proofs.Ledger.{Told, Told-end}
-use Rattle.p2p_log_laws.proofs.Plain.{and_false}
 use Rattle.p2p_log_laws.proofs.Prefixes.{lawful_at_end}
 use Rattle.p2p_log_laws.proofs.Reaching.{reads, writes}
 use Rattle.p2p_log_laws.proofs.Shape.{Shape, Origin, OfAct, OfItem, Moved-origins}
@@ -170,7 +170,7 @@ module _ (n conn : ℕ) (log : List Entry) where
   goes_on_tells a half false false (y ∷ ys) = written_tells a (queue.Link half.link half.writes) false (y ∷ ys) refl
   goes_on_tells a half false true ys = written_tells a (queue.Link half.link half.writes) true ys refl
 
-  told_tells : (a : Act) (half : Half) (xs : List Envelope) (room : Bool) (r : Row) → TellsOnce a r → TellsOnce a (Effect.told_row log n conn half xs room r)
+  told_tells : (a : Act) (half : Half) (xs : List Envelope) (room : Bool) (r : Row) → TellsOnce a r → TellsOnce a (Effect.told_to_end_row log n conn half xs room r)
   told_tells a half [] room r h = h
   told_tells a half (x ∷ xs) true r h = last_tells a half ended.Killed cause.ConnectionEnded (x ∷ [])
   told_tells a half (x ∷ xs) false r h = h
@@ -199,18 +199,12 @@ module _ (n conn : ℕ) (log : List Entry) where
       by_up true = sender_tells configs at (live_half log n conn) self same
       by_up false = silent (act.SendStep conn n) (only reply.Gone) refl
 
-  is_sender : (a : Act) → steps_sender n conn a ≡ true → a ≡ act.SendStep conn n
-  is_sender (act.SendStep e m) steps =
-      let both = and_parts (m == n) (e == conn) steps in
-      ap (λ k. act.SendStep k m) (eqb-true e conn both.1) ∙ ap (act.SendStep conn) (eqb-true m n both.0)
-  is_sender _ steps = absurd (false≢true steps)
-
   each_tells : (configs : List Config) (at seed : ℕ) (a : Act) → Each StandsFit (live log) → TellsOnce a (row configs log at seed a)
   unfolding row
   each_tells configs at seed a fitting = by (steps_sender n conn a) refl
     where
       by : (b : Bool) → steps_sender n conn a ≡ b → TellsOnce a (row configs log at seed a)
-      by true steps = subst (λ k. TellsOnce k (row configs log at seed k)) (sym (is_sender a steps)) (send_tells configs at (eq-eqb n n refl) (eq-eqb conn conn refl))
+      by true steps = subst (λ k. TellsOnce k (row configs log at seed k)) (sym (sender_is n conn a steps)) (send_tells configs at (eq-eqb n n refl) (eq-eqb conn conn refl))
       by false other = other_tells configs a (row configs log at seed a) (row_shape configs log at seed a) fitting other
 
   -- ---- a router answers what it is told
@@ -241,18 +235,29 @@ module _ (n conn : ℕ) (log : List Entry) where
   routed_answers : (configs : List Config) (m : ℕ) (name : ℕ × ℕ) (i : Item) (items : List Envelope) → AnswersWhat m (i ∷ []) (Effect.route_row configs log m name i items)
   routed_answers configs m name (item.Subscribe c) items =
       none_answered m (item.Subscribe c ∷ []) (Effect.route_row configs log m name (item.Subscribe c) items) (lists_unanswered m (keys_in (routes log m)) (c ∷ []))
-  routed_answers configs m name (item.Ready e key) items =
-      let i : Item = item.Ready e key in
-      let answer : Queue × Item = (queue.Ready m e, item.Answer) in
-      let lists : List (Queue × Item) = map (peers_put m (keys_in (with_route (routes log m) i))) (subscribers log m) in
-      let first : count_by (puts_answer n conn) (answer ∷ lists) ≡ one (((m == n) && (e == conn)) && true) + count_by (puts_answer n conn) lists = sum_by-cons (λ x. one (puts_answer n conn x)) answer lists in
-      let rest : count_by (puts_answer n conn) lists ≡ 0 = count_by-none (puts_answer n conn) lists (lists_unanswered m (keys_in (with_route (routes log m) i)) (subscribers log m)) in
-      let told : count_by (λ j. (m == n) && names_ready conn j) (i ∷ []) ≡ one ((m == n) && (e == conn)) + 0 = sum_by-cons (λ j. one ((m == n) && names_ready conn j)) i [] in
-      counted ((m == n) && (e == conn)) (count_by (puts_answer n conn) (answer ∷ lists)) (count_by (puts_answer n conn) lists) (count_by (λ j. (m == n) && names_ready conn j) (i ∷ [])) first rest told
+  routed_answers configs m name (item.Ready e key) items = by (is_ended log m e)
     where
+      i : Item
+      i = item.Ready e key
+
+      lists : List (Queue × Item)
+      lists = map (peers_put m (keys_in (with_route (routes log m) i))) (subscribers log m)
+
+      unanswered : Each Unanswered lists
+      unanswered = lists_unanswered m (keys_in (with_route (routes log m) i)) (subscribers log m)
+
       counted : (b : Bool) (all lists told : ℕ) → all ≡ one (b && true) + lists → lists ≡ 0 → told ≡ one b + 0 → all ≤ told
       counted true all lists told first rest is = omega (arith, first, rest, is)
       counted false all lists told first rest is = omega (arith, first, rest, is)
+
+      by : (ended : Bool) → AnswersWhat m (i ∷ []) (Effect.ready_row log m name e key ended items)
+      by true = none_answered m (i ∷ []) (Effect.ready_row log m name e key true items) unanswered
+      by false =
+          let answer : Queue × Item = (queue.Ready m e, item.Answer) in
+          let first : count_by (puts_answer n conn) (answer ∷ lists) ≡ one (((m == n) && (e == conn)) && true) + count_by (puts_answer n conn) lists = sum_by-cons (λ x. one (puts_answer n conn x)) answer lists in
+          let told : count_by (λ j. (m == n) && names_ready conn j) (i ∷ []) ≡ one ((m == n) && (e == conn)) + 0 = sum_by-cons (λ j. one ((m == n) && names_ready conn j)) i [] in
+          counted ((m == n) && (e == conn)) (count_by (puts_answer n conn) (answer ∷ lists)) (count_by (puts_answer n conn) lists) (count_by (λ j. (m == n) && names_ready conn j) (i ∷ [])) first
+          (count_by-none (puts_answer n conn) lists unanswered) told
   routed_answers configs m name (item.Release key) items =
       none_answered m (item.Release key ∷ []) (Effect.route_row configs log m name (item.Release key) items) (lists_unanswered m (keys_in (with_route (routes log m) (item.Release key))) (subscribers log m))
   routed_answers configs m name (item.Content c frame priority send to) items =
@@ -360,12 +365,12 @@ module _ (n conn : ℕ) (log : List Entry) where
     answer_there _ item.Answer read fit is = absurd (false≢true fit)
     answer_there _ _ read fit is = absurd (false≢true is)
 
-    answer_weight : (xs : List Envelope) → Each (λ x. reads configs log (act.SendStep conn n) x.queue ≡ true) xs → Each StandsFit xs → one (list_any (λ b. b) (map is_answer (map (λ x. x.item) xs))) ≤ weight (puts_answer n conn) xs
+    answer_weight : (xs : List Envelope) → Each (λ x. reads configs log (act.SendStep conn n) x.queue ≡ true) xs → Each StandsFit xs → one (list_any is_answer (map (λ x. x.item) xs)) ≤ weight (puts_answer n conn) xs
     answer_weight [] read fit = omega arith
     answer_weight (x ∷ xs) read fit =
         let rest = answer_weight xs read.1 fit.1 in
         let first : weight (puts_answer n conn) (x ∷ xs) ≡ one (puts_answer n conn (put_of x)) + weight (puts_answer n conn) xs = sum_by-cons (λ y. one (puts_answer n conn (put_of y))) x xs in
-        by (is_answer x.item) (list_any (λ b. b) (map is_answer (map (λ y. y.item) xs))) refl (weight (puts_answer n conn) (x ∷ xs)) (weight (puts_answer n conn) xs) first rest
+        by (is_answer x.item) (list_any is_answer (map (λ y. y.item) xs)) refl (weight (puts_answer n conn) (x ∷ xs)) (weight (puts_answer n conn) xs) first rest
       where
         by : (here later : Bool) → is_answer x.item ≡ here → (all more : ℕ) → all ≡ one (puts_answer n conn (put_of x)) + more → one later ≤ more → one (here || later) ≤ all
         by false later is all more first rest = omega (arith, first, rest)
@@ -375,16 +380,17 @@ module _ (n conn : ℕ) (log : List Entry) where
             in
             omega (arith, first, counts)
 
-    takes_answer : Each StandsFit (live log) → one (list_any (λ b. b) (answers_by n conn log e)) ≤ weight (puts_answer n conn) shape.moves.taken
-    takes_answer fitting = by (steps_sender n conn ev.act) refl
+    takes_answer : Each StandsFit (live log) → one (runs n conn log e) ≤ weight (puts_answer n conn) shape.moves.taken
+    takes_answer fitting = subst (λ b. one b ≤ weight (puts_answer n conn) shape.moves.taken) (sym (runs_is log e n conn ∙ ap (λ b. b && list_any is_answer (taken log e)) (begins_is log e n conn))) (by (steps_sender n conn ev.act) (is_done r.reply) refl)
       where
-        by : (b : Bool) → steps_sender n conn ev.act ≡ b → one (list_any (λ c. c) (cond b (map is_answer (taken log e)) [])) ≤ weight (puts_answer n conn) shape.moves.taken
-        by false steps = omega arith
-        by true steps =
-            subst (λ items. one (list_any (λ c. c) (map is_answer items)) ≤ weight (puts_answer n conn) shape.moves.taken) (sym (taken_items log ev r shape.moves))
+        by : (b d : Bool) → steps_sender n conn ev.act ≡ b → one ((b && d) && list_any is_answer (taken log e)) ≤ weight (puts_answer n conn) shape.moves.taken
+        by false d steps = omega arith
+        by true false steps = omega arith
+        by true true steps =
+            subst (λ items. one (list_any is_answer items) ≤ weight (puts_answer n conn) shape.moves.taken) (sym (taken_items log ev r shape.moves))
             (answer_weight shape.moves.taken
             (Each-weaker (λ x. reads configs log ev.act x.queue ≡ true) (λ x. reads configs log (act.SendStep conn n) x.queue ≡ true)
-            (λ x read. subst (λ a. reads configs log a x.queue ≡ true) (is_sender ev.act steps) read) shape.moves.taken shape.reach.taken)
+            (λ x read. subst (λ a. reads configs log a x.queue ≡ true) (sender_is n conn ev.act steps) read) shape.moves.taken shape.reach.taken)
             (Each-taken StandsFit (live log) shape.moves.taken fitting (taken_stood log ev r shape.moves)))
 
 -- ---- over a log
@@ -392,10 +398,10 @@ module _ (n conn : ℕ) (log : List Entry) where
 module _ (configs : List Config) (n conn : ℕ) where
   -- what waits, what was answered and whether it runs, together
   abbrev IsHeardOnce : List Entry → Type 0
-  IsHeardOnce log = (weight (tells_ready n conn) (live log) + weight (puts_answer n conn) (live log)) + one (is_running log n conn) ≤ one (is_begun log n conn)
+  IsHeardOnce log = (weight (tells_ready n conn) (live log) + weight (puts_answer n conn) (live log)) + one (has_run log n conn) ≤ one (is_begun log n conn)
 
   heard_first : IsHeardOnce []
-  unfolding live_from state_from told is_running is_begun
+  unfolding live_from state_from told has_run is_begun
   heard_first = omega arith
 
   counted : (told answered told_after answered_after told_taken told_ended answers_taken answers_ended told_puts answer_puts took runs runs_after before begun : ℕ)
@@ -417,17 +423,17 @@ module _ (configs : List Config) (n conn : ℕ) where
       let e : Entry = entry_of ev r in
       let told : Told configs before = Told-end configs script before lawful in
       let m : Moves before r = (row_shape configs before ev.at ev.seed ev.act).moves in
-      let took : Bool = list_any (λ b. b) (answers_by n conn before e) in
+      let took : Bool = runs n conn before e in
       let begins : one (is_begun before n conn) + count_by (tells_ready n conn) r.puts ≤ one (is_begun (before ++ e ∷ []) n conn) =
-      subst (λ b. one (is_begun before n conn) + count_by (tells_ready n conn) r.puts ≤ one b) (sym (is_begun-append before e n conn))
+      subst (λ b. one (is_begun before n conn) + count_by (tells_ready n conn) r.puts ≤ one b) (sym (is_begun-append before e n conn ∙ ap (λ b. is_begun before n conn || b) (begins_is before e n conn)))
       (each_tells n conn before configs ev.at ev.seed ev.act told.standing.fitting)
       in
-      let runs : one (is_running (before ++ e ∷ []) n conn) ≤ one (is_running before n conn) + one took =
-      subst (λ b. one b ≤ one (is_running before n conn) + one took) (sym (is_running-append before e n conn)) (either (is_running before n conn) took)
+      let runs : one (has_run (before ++ e ∷ []) n conn) ≤ one (has_run before n conn) + one took =
+      subst (λ b. one b ≤ one (has_run before n conn) + one took) (sym (has_run-append before e n conn)) (either (has_run before n conn) took)
       in
       counted (weight (tells_ready n conn) (live before)) (weight (puts_answer n conn) (live before)) (weight (tells_ready n conn) (live (before ++ e ∷ []))) (weight (puts_answer n conn) (live (before ++ e ∷ [])))
       (weight (tells_ready n conn) m.taken) (weight (tells_ready n conn) m.ended) (weight (puts_answer n conn) m.taken) (weight (puts_answer n conn) m.ended)
-      (count_by (tells_ready n conn) r.puts) (count_by (puts_answer n conn) r.puts) (one took) (one (is_running before n conn)) (one (is_running (before ++ e ∷ []) n conn))
+      (count_by (tells_ready n conn) r.puts) (count_by (puts_answer n conn) r.puts) (one took) (one (has_run before n conn)) (one (has_run (before ++ e ∷ []) n conn))
       (one (is_begun before n conn)) (one (is_begun (before ++ e ∷ []) n conn))
       (weighed before ev r m (tells_ready n conn)) (weighed before ev r m (puts_answer n conn)) (answers_told n conn before configs ev) (takes_answer n conn before configs ev told.standing.fitting) runs begins old
 
@@ -446,12 +452,12 @@ none_counted p (x ∷ xs) none =
     by true is all rest none first = absurd (omega (arith, none, first))
 
 -- once a connection runs, no word that it begins waits for its node's router
-pub running_heard : (configs : List Config) (script : List Event) (log : List Entry) → IsLawful configs script log → (n conn : ℕ) → is_running log n conn ≡ true
+pub running_heard : (configs : List Config) (script : List Event) (log : List Entry) → IsLawful configs script log → (n conn : ℕ) → has_run log n conn ≡ true
     → Each (λ x. names_ready conn x.item ≡ false) (line log (queue.Router n))
 unfolding line
 running_heard configs script log lawful n conn runs =
     let none : weight (tells_ready n conn) (live log) ≡ 0 =
-    by (is_running log n conn) (is_begun log n conn) runs (weight (tells_ready n conn) (live log)) (weight (puts_answer n conn) (live log)) (heard_once configs n conn script log lawful)
+    by (has_run log n conn) (is_begun log n conn) runs (weight (tells_ready n conn) (live log)) (weight (puts_answer n conn) (live log)) (heard_once configs n conn script log lawful)
     in
     let each : Each (λ x. tells_ready n conn (put_of x) ≡ false) (live log) = none_counted (λ x. tells_ready n conn (put_of x)) (live log) none in
     Each-from_has (λ (x : Envelope). names_ready conn x.item ≡ false) (filter (stands_in (queue.Router n)) (live log)) (λ x has.

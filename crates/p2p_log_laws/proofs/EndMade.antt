@@ -26,7 +26,7 @@ use Rattle.p2p_log_rules.specs.Facts.{is_up, item_named, taken, with_begun}
 use Rattle.p2p_log_rules.specs.Lawful.{IsLawful}
 use Rattle.p2p_log_rules.specs.Rows.{only, takes_oldest}
 use Rattle.p2p_log_rules.specs.Spawning.{Spawned, steps_spawner, spawned_of, connections_of}
-use Rattle.p2p_log_rules.proofs.Connections.{is_ended-kept, ends_none-act}
+use Rattle.p2p_log_rules.proofs.Connections.{is_ended-kept, ends_untold}
 use Rattle.p2p_log_rules.proofs.Lawful.{IsLawful-nil, IsLawful-append}
 use Rattle.p2p_log_rules.proofs.Recorded.{item_named-first}
 use Rattle.p2p_log_rules.proofs.Spawning.{connections_of-acted, connections_of-late, connections_of-longer}
@@ -236,5 +236,5 @@ module _ (configs : List Config) (script : List Event) (log : List Entry) (lawfu
       let m = made_of conn c made in
       let before = lawful_before configs script log lawful conn in
       ap (λ l. is_ended l n conn) (take_next log conn m.entry m.at)
-      ∙ (is_ended-kept (take conn log) m.entry n conn (ends_none-act m.entry n conn (act.Spawner n) m.acts refl)
+      ∙ (is_ended-kept (take conn log) m.entry n conn (ends_untold (take conn log) m.entry n conn (act.Spawner n) m.acts refl)
       ∙ unended_late configs before.0 (take conn log) before.1 n conn (take_short conn log))

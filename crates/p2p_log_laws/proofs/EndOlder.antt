@@ -16,7 +16,7 @@ use Rattle.p2p_log_rules.specs.Facts.{key_at}
 use Rattle.p2p_log_rules.specs.Lawful.{IsLawful}
 use Rattle.p2p_log_rules.specs.Spawning.{Spawned, connections_of}
 use Rattle.p2p_log_rules.specs.Tracking.{key_cmp, no_rules, rules_of, rules_at, calls_of}
-use Rattle.p2p_log_rules.proofs.Connections.{is_ended-kept, ends_none-act}
+use Rattle.p2p_log_rules.proofs.Connections.{is_ended-kept, ends_untold}
 use Rattle.p2p_log_rules.proofs.Spawning.{connections_of-late}
 use Rattle.p2p_log_laws.specs.Grants.{one, is_held, is_stopped}
 use Rattle.p2p_log_laws.specs.NodeGrants.{is_connection_of, granting}
@@ -113,7 +113,7 @@ abbrev local_in : Option Config → Key
 local_in o = (elim o as (λ x. Rules Key) [ None ↦ no_rules | Some c ↦ rules_of c ]).local
 
 -- a node's tracker has the node's own key
-own_key : (configs : List Config) (n : ℕ) → is_local key_cmp (rules_at configs n) (key_at configs n) ≡ true
+pub own_key : (configs : List Config) (n : ℕ) → is_local key_cmp (rules_at configs n) (key_at configs n) ≡ true
 own_key configs n = ap (λ (k : Key). is_local key_cmp (rules_at configs n) k) (by (slice_get configs n) refl) ∙ (at_key (rules_at configs n).local (rules_at configs n).local ∙ eq-eqb (rules_at configs n).local.0 (rules_at configs n).local.0 refl)
   where
     by : (o : Option Config) → slice_get configs n ≡ o → key_at configs n ≡ (rules_at configs n).local
@@ -139,7 +139,7 @@ module _ (configs : List Config) (script : List Event) (log : List Entry) (lawfu
       by : (t : Bool) → is_ended (take (suc d) log) n c ≡ t → is_ended (take d log) n c ≡ true
       by true is =
           let m = made_of configs script log lawful n d b second in
-          sym (is_ended-kept (take d log) m.entry n c (ends_none-act m.entry n c (act.Spawner n) m.acts refl)) ∙ (ap (λ l. is_ended l n c) (sym (take_next log d m.entry m.at)) ∙ is)
+          sym (is_ended-kept (take d log) m.entry n c (ends_untold (take d log) m.entry n c (act.Spawner n) m.acts refl)) ∙ (ap (λ l. is_ended l n c) (sym (take_next log d m.entry m.at)) ∙ is)
       by false is =
           absurd (
           let before = lawful_before configs script log lawful (suc d) in

@@ -3,6 +3,7 @@ use Rattle.std.proofs.Common.{◌≡◌, ℕ, ◌<◌, Bool, true, false, List, 
 use Rattle.std.specs.Prelude.{◌==◌, ◌&&◌, ◌||◌, slice_get}
 use Rattle.std.specs.List.{AllByRecursion as Each}
 use Rattle.std.proofs.lemmas.Bool.{and_parts, false≢true}
+use Rattle.p2p_log_rules.proofs.Bools.{or_false}
 use Rattle.p2p_base.specs.declared.key.Key.{Key}
 use Rattle.p2p_log.specs.declared.config.Config.{Config}
 use Rattle.p2p_log.specs.declared.queue.Queue.{Queue}
@@ -22,7 +23,7 @@ use Rattle.p2p_log.proofs.Taken.{Each-taken}
 use Rattle.p2p_log_rules.specs.declared.row.Half.{Half}
 use Rattle.p2p_log_rules.specs.declared.row.Opening.{Opening}
 use Rattle.p2p_log_rules.specs.declared.row.Row.{Row}
-use Rattle.p2p_log_rules.specs.Connections.{steps_sender, steps_receiver, half_at, is_ended}
+use Rattle.p2p_log_rules.specs.Connections.{half_at, is_ended}
 use Rattle.p2p_log_rules.specs.Dropping.{other_side}
 use Rattle.p2p_log_rules.specs.Effect.{effect, row, only}
 use Rattle.p2p_log_rules.specs.Lawful.{IsLawful}
@@ -54,10 +55,6 @@ reads_link o half l s is read = eqb-true l half.link (sym (ap (λ p. in_link p (
 
 reads_held : (n e c : ℕ) (o : Option Half) → (((n == n) && (c == e)) || in_link o (queue.Held n c)) ≡ true → c ≡ e
 reads_held n e c o read = eqb-true c e (and_parts (n == n) (c == e) (sym (or_false ((n == n) && (c == e))) ∙ read)).1
-  where
-    or_false : (b : Bool) → (b || false) ≡ b
-    or_false true = refl
-    or_false false = refl
 
 ends_aside : (o : Option Opening) (n c : ℕ) → in_ends o (queue.Channel n c) ≡ false
 ends_aside None n c = refl
@@ -158,15 +155,12 @@ module _ (configs : List Config) (script : List Event) (log : List Entry) (lawfu
           none_put : (r : Row) → r ≡ only reply.Gone → Has r.puts (queue.Channel n c, message) → ⊥
           none_put r gone has = subst (λ (k : Row). Has k.puts (queue.Channel n c, message)) gone has
 
-          steps : (a : Act) (e : ℕ) → a ≡ act.RecvStep e n → (steps_sender n e a || steps_receiver n e a) ≡ true
-          steps a e is = ap (λ k. steps_sender n e k || steps_receiver n e k) is ∙ (ap (λ b. b && (e == e)) (eq-eqb n n refl) ∙ eq-eqb e e refl)
-
           came : (ev : Event) (y : Envelope) → Has (row configs before ev.at ev.seed ev.act).puts (queue.Channel n c, message) → writes configs before ev.act (queue.Channel n c) ≡ true
               → reads configs before ev.act y.queue ≡ true → IsPut before y → StandTells configs before y → IsReceived before y n c message ⊎ IsRetried before y n c message → IsOpenAt log n conn s
           came ev y has put_there read put tells of =
               let step = reader_steps configs before n c y.queue ev.act put_there read in
               let reads_it : reads configs before (act.RecvStep step.0 n) y.queue ≡ true = subst (λ a. reads configs before a y.queue ≡ true) step.1 read in
-              elim (steps_live configs before ev n step.0 (steps ev.act step.0 step.1)) [
+              elim (steps_live configs before ev n step.0 false step.1) [
                 | inl gone ↦ absurd (none_put (row configs before ev.at ev.seed ev.act) gone has)
                 | inr live ↦
                     let l = is_live before n step.0 live.0 live.1 in

@@ -23,7 +23,7 @@ use Rattle.p2p_log_rules.specs.Facts.{key_at}
 use Rattle.p2p_log_rules.specs.Handshakes.{is_handshaking, peer_of, peer_at}
 use Rattle.p2p_log_rules.specs.Lawful.{IsLawful}
 use Rattle.p2p_log_rules.specs.Spawning.{Spawned, connections_of}
-use Rattle.p2p_log_rules.proofs.Attempts.{attempts_of-late}
+use Rattle.p2p_log_rules.proofs.AttemptTellings.{attempts_of-late}
 use Rattle.p2p_log_rules.proofs.Handshakes.{handshaking_early}
 use Rattle.p2p_log_rules.proofs.Moves.{one_taken}
 use Rattle.p2p_log_rules.proofs.TakenAt.{taken_at-longer}
@@ -193,13 +193,10 @@ module _ (configs : List Config) (script : List Event) (log : List Entry) (lawfu
       → (e : Entry) × (slice_get log link ≡ Some e) × (answers_attempt n k e.event.act ≡ true)
   answered n k s link a stood is later = by a.answer refl is
     where
-      before : (events : List Event) × IsLawful configs events (take s log)
-      before = lawful_before configs script log lawful s
-
       by : (o : Option ℕ) → a.answer ≡ o → link_of o ≡ link → (e : Entry) × (slice_get log link ≡ Some e) × (answers_attempt n k e.event.act ≡ true)
       by None answer at = absurd (later (sym at))
       by (Some l) answer at =
-          let own = answers_own configs before.0 (take s log) before.1 n k l a stood answer in (
+          let own = answers_own configs (take s log) n k l a stood answer in (
             own.0,
             subst (λ i. slice_get log i ≡ Some own.0) at
                 (subst (λ (es : List Entry). slice_get es l ≡ Some own.0) (take-append-drop s log) (get_longer (take s log) (drop s log) l own.0 own.1)),
@@ -284,7 +281,7 @@ module _ (configs : List Config) (script : List Event) (log : List Entry) (lawfu
         by of own leads
       where
         dialer : (n k j : ℕ) (from : SocketAddr) (m : ℕ) → answers_attempt n k (act.Connect j from m n) ≡ true → m ≡ n
-        dialer n k j from m h = eqb-true m n (and_parts (m == n) (j == k) h).0
+        dialer n k j from m h = eqb-true m n (and_parts (m == n) (k == j) h).0
 
         peer : (of : IsLinkOf n link) → of.node ≡ n → (from to : ℕ) → Links log link from to → (from ≡ n) × (to ≡ n)
         peer of own from to l =

@@ -1,5 +1,5 @@
 -- The shape of a step of a half that ends its connection: all that waits for the connection ends with it, and its copies.
-use Rattle.std.proofs.Common.{◌≡◌, ℕ, ◌+◌, true, List, [], ◌∷◌, ◌++◌, map, Some, inl, inr, refl, ap, sym, subst, ◌∙◌, arith}
+use Rattle.std.proofs.Common.{◌≡◌, ℕ, ◌+◌, Bool, true, List, [], ◌∷◌, ◌++◌, map, Some, inl, inr, refl, ap, sym, subst, ◌∙◌, arith}
 use Rattle.std.specs.Prelude.{◌==◌, ◌||◌, ◌&&◌, flat_map, count_by, slice_get}
 use Rattle.std.specs.List.{AllByRecursion as Each}
 use Rattle.std.proofs.lemmas.Bool.Decides.{nat_tests}
@@ -31,7 +31,8 @@ use Rattle.p2p_log.proofs.Queues.{same_queue-refl}
 use Rattle.p2p_log.proofs.Taken.{Each-drained, Has-taken}
 use Rattle.p2p_log_rules.specs.declared.row.Half.{Half}
 use Rattle.p2p_log_rules.specs.declared.row.Row.{Row}
-use Rattle.p2p_log_rules.specs.Connections.{half_at, live_half, steps_sender, steps_receiver, is_end}
+use Rattle.p2p_log_rules.proofs.Connections.{half_act, end_by}
+use Rattle.p2p_log_rules.specs.Connections.{half_at, live_half, ends_connection, is_end}
 use Rattle.p2p_log_rules.specs.Dropping.{other_side, half_end}
 use Rattle.p2p_log_rules.specs.Effect.{entry_of}
 use Rattle.p2p_log_rules.specs.Ending.{queues_with, copies_drop, left_by, end_row}
@@ -97,7 +98,7 @@ with_in log n conn half at q has = Each-has (λ p. in_connection (half_at log n 
 
 -- a step of one of its halves ends the connection
 module _ (configs : List Config) (log : List Entry) (a : Act) (n conn : ℕ) (half : Half) (lived : live_half log n conn ≡ Some half)
-    (steps : (steps_sender n conn a || steps_receiver n conn a) ≡ true) (none : (r : Reply) → keys_sent (sending_of a r) ≡ [])
+    (sends : Bool) (steps : a ≡ half_act sends conn n) (none : (r : Reply) → keys_sent (sending_of a r) ≡ [])
     (near : (q : Queue) → Has (queues_with n conn half) q → ends_in configs log a q ≡ true)
     (router : writes configs log a (queue.Router n) ≡ true) (tracker : writes configs log a (queue.Tracker n) ≡ true) where
   -- what stood with the connection shows why its copy is dropped
@@ -117,8 +118,8 @@ module _ (configs : List Config) (log : List Entry) (a : Act) (n conn : ℕ) (ha
     carried = bears;
   })
     where
-      over : ((steps_sender n conn ev.act || steps_receiver n conn ev.act) && is_end r.reply) ≡ true
-      over = ap (λ b. (steps_sender n conn b || steps_receiver n conn b) && is_end r.reply) acts ∙ (ap (λ b. b && is_end r.reply) steps ∙ ap is_end says)
+      over : ends_connection n conn log (entry_of ev r) ≡ true
+      over = end_by log (entry_of ev r) n conn sends (acts ∙ steps) (ap is_end says)
 
   pub end_shape : (why : Ended) (c : Cause) (taken : List Envelope) → AreTaken (live log) taken → Each (λ x. reads configs log a x.queue ≡ true) taken
       → (Standing configs log → (ev : Event) → ev.act ≡ a → (x : Envelope) (copy : ℕ × ℕ) → Has taken x → carries copy x ≡ true

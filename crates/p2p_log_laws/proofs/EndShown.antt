@@ -1,8 +1,9 @@
 -- Each entry that ends a connection shows why, ends no other, and no other ends it; and what waits for a router is read in order.
 use Rattle.std.proofs.Common.{◌≡◌, ℕ, suc, ◌<◌, ◌≤◌, Bool, true, false, cond, List, [], ◌∷◌, map, length, take, drop, Option, Some, inl, inr, refl, ap, sym, subst, ◌∙◌, arith, take-append-drop, eqb-true}
-use Rattle.std.specs.Prelude.{◌==◌, ◌&&◌, ◌||◌, filter, slice_get}
+use Rattle.std.specs.Prelude.{◌||◌, filter, slice_get}
 use Rattle.std.proofs.lemmas.Bool.{and_parts, cases_lt, false≢true}
 use Rattle.std.proofs.lemmas.Option.{same_Some}
+use Rattle.p2p_log_rules.proofs.Bools.{or_true}
 use Rattle.p2p_base.specs.declared.key.Key.{Key}
 use Rattle.p2p_log.specs.declared.config.Config.{Config}
 use Rattle.p2p_log.specs.declared.queue.Queue.{Queue}
@@ -25,14 +26,14 @@ use Rattle.p2p_log.proofs.Sending.{get_longer}
 use Rattle.p2p_log.proofs.Taken.{Each-taken}
 use Rattle.p2p_log_rules.specs.declared.row.Half.{Half}
 use Rattle.p2p_log_rules.specs.declared.row.Row.{Row}
-use Rattle.p2p_log_rules.specs.Connections.{steps_sender, steps_receiver, is_end, ends_connection, half_at, is_ended}
+use Rattle.p2p_log_rules.specs.Connections.{ends_connection, half_at, is_ended}
 use Rattle.p2p_log_rules.specs.Effect
 use Rattle.p2p_log_rules.specs.Effect.{effect, row}
 use Rattle.p2p_log_rules.specs.Facts.{is_up}
 use Rattle.p2p_log_rules.specs.Lawful.{IsLawful}
 use Rattle.p2p_log_rules.specs.Rows.{only}
 use Rattle.p2p_log_rules.specs.Tracking.{asked_by}
-use Rattle.p2p_log_rules.proofs.Connections.{is_ended-append, half_parts, is_live}
+use Rattle.p2p_log_rules.proofs.Connections.{half_act, end_of, is_ended-append, half_parts, is_live}
 use Rattle.p2p_log_rules.proofs.Moves.{taken_stood}
 use Rattle.p2p_log_rules.proofs.Touches.{is_told_to}
 use Rattle.p2p_log_laws.specs.Endings.{HasReason, ShowsEnd, EachEndShows, EachEndsOne, EachIsEndedOnce, ReleasesAreTimely}
@@ -67,12 +68,12 @@ module _ (configs : List Config) (script : List Event) (log : List Entry) (lawfu
     },
   )
 
-  pub end_is : (i n conn : ℕ) (e : Entry) → slice_get log i ≡ Some e → ends_connection n conn e ≡ true → (ev : Event) × (e ≡ effect configs (take i log) ev) × IsEndRow configs (take i log) n conn (row configs (take i log) ev.at ev.seed ev.act)
+  pub end_is : (i n conn : ℕ) (e : Entry) → slice_get log i ≡ Some e → ends_connection n conn (take i log) e ≡ true → (ev : Event) × (e ≡ effect configs (take i log) ev) × IsEndRow configs (take i log) n conn (row configs (take i log) ev.at ev.seed ev.act)
   end_is i n conn e at ends =
       let due = entry_due configs script log lawful i e at in (
         due.0,
         due.1,
-        end_row_is configs (take i log) due.0 n conn (Told-each configs script log lawful i).standing.fitting (subst (λ (d : Entry). ends_connection n conn d ≡ true) due.1 ends),
+        end_row_is configs (take i log) due.0 n conn (Told-each configs script log lawful i).standing.fitting (subst (λ (d : Entry). ends_connection n conn (take i log) d ≡ true) due.1 ends),
       )
 
   pub each_end_shows : EachEndShows configs log
@@ -82,45 +83,30 @@ module _ (configs : List Config) (script : List Event) (log : List Entry) (lawfu
 
   -- ---- one, and once
 
-  same_half : (a : Act) (n m c d : ℕ) → (steps_sender n c a || steps_receiver n c a) ≡ true → (steps_sender m d a || steps_receiver m d a) ≡ true → (n ≡ m) × (c ≡ d)
-  same_half (act.SendStep e k) n m c d first second = numbers k e n m c d (sym (or_none ((k == n) && (e == c))) ∙ first) (sym (or_none ((k == m) && (e == d))) ∙ second)
-    where
-      or_none : (b : Bool) → (b || false) ≡ b
-      or_none true = refl
-      or_none false = refl
-
-      numbers : (k e n m c d : ℕ) → ((k == n) && (e == c)) ≡ true → ((k == m) && (e == d)) ≡ true → (n ≡ m) × (c ≡ d)
-      numbers k e n m c d h i =
-          let one = and_parts (k == n) (e == c) h in
-          let two = and_parts (k == m) (e == d) i in
-          (sym (eqb-true k n one.0) ∙ eqb-true k m two.0, sym (eqb-true e c one.1) ∙ eqb-true e d two.1)
-  same_half (act.RecvStep e k) n m c d first second =
-      let one = and_parts (k == n) (e == c) first in
-      let two = and_parts (k == m) (e == d) second in
-      (sym (eqb-true k n one.0) ∙ eqb-true k m two.0, sym (eqb-true e c one.1) ∙ eqb-true e d two.1)
-  same_half _ n m c d first second = absurd (false≢true first)
+  same_half : (s t : Bool) (n m c d : ℕ) → half_act s c n ≡ half_act t d m → (n ≡ m) × (c ≡ d)
+  same_half true true n m c d is = (cc, cc)
+  same_half false false n m c d is = (cc, cc)
+  same_half true false n m c d is = absurd (cc)
+  same_half false true n m c d is = absurd (cc)
 
   pub each_ends_one : EachEndsOne log
   each_ends_one i n m c d e at first second =
-      same_half e.event.act n m c d (and_parts (steps_sender n c e.event.act || steps_receiver n c e.event.act) (is_end e.reply) first).0
-      (and_parts (steps_sender m d e.event.act || steps_receiver m d e.event.act) (is_end e.reply) second).0
+      let one = end_of (take i log) e n c first in
+      let two = end_of (take i log) e m d second in
+      same_half one.sends two.sends n m c d (sym one.acts ∙ two.acts)
 
   -- it has ended from then on
   pub ended_on : (n conn i j : ℕ) → i ≤ j → is_ended (take i log) n conn ≡ true → is_ended (take j log) n conn ≡ true
   ended_on n conn i j le h =
-      holds_on configs script log lawful (λ l. is_ended l n conn ≡ true) (λ before ev was. is_ended-append before (effect configs before ev) n conn ∙ ap (λ b. b || ends_connection n conn (effect configs before ev)) was) i j le h
+      holds_on configs script log lawful (λ l. is_ended l n conn ≡ true) (λ before ev was. is_ended-append before (effect configs before ev) n conn ∙ ap (λ b. b || ends_connection n conn before (effect configs before ev)) was) i j le h
 
-  ended_by : (n conn i : ℕ) (e : Entry) → slice_get log i ≡ Some e → ends_connection n conn e ≡ true → is_ended (take (suc i) log) n conn ≡ true
+  ended_by : (n conn i : ℕ) (e : Entry) → slice_get log i ≡ Some e → ends_connection n conn (take i log) e ≡ true → is_ended (take (suc i) log) n conn ≡ true
   ended_by n conn i e at ends = ap (λ l. is_ended l n conn) (take_next log i e at) ∙ (is_ended-append (take i log) e n conn ∙ (ap (λ b. is_ended (take i log) n conn || b) ends ∙ or_true (is_ended (take i log) n conn)))
-    where
-      or_true : (b : Bool) → (b || true) ≡ true
-      or_true true = refl
-      or_true false = refl
 
-  lived : (n conn i : ℕ) (e : Entry) → slice_get log i ≡ Some e → ends_connection n conn e ≡ true → is_ended (take i log) n conn ≡ false
+  lived : (n conn i : ℕ) (e : Entry) → slice_get log i ≡ Some e → ends_connection n conn (take i log) e ≡ true → is_ended (take i log) n conn ≡ false
   lived n conn i e at ends = let h = (end_is i n conn e at ends).2 in (is_live (take i log) n conn h.half h.lived).lives
 
-  not_again : (n conn i j : ℕ) (e f : Entry) → slice_get log i ≡ Some e → slice_get log j ≡ Some f → ends_connection n conn e ≡ true → ends_connection n conn f ≡ true → i < j → ⊥
+  not_again : (n conn i j : ℕ) (e f : Entry) → slice_get log i ≡ Some e → slice_get log j ≡ Some f → ends_connection n conn (take i log) e ≡ true → ends_connection n conn (take j log) f ≡ true → i < j → ⊥
   not_again n conn i j e f at also first second less = false≢true (sym (lived n conn j f also second) ∙ ended_on n conn (suc i) j less (ended_by n conn i e at first))
 
   pub each_is_ended_once : EachIsEndedOnce log

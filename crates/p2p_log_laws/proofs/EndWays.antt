@@ -1,10 +1,11 @@
 -- By which ways a link can come to a spawner: an attempt is answered once, and by an entry of its own, and a handshake has the one arrival
 -- over its link; and neither comes back once it has ended.
 use Rattle.std.proofs.Common.{◌≡◌, ℕ, suc, zero, ◌+◌, ◌≤◌, Bool, true, false, cond, List, [], ◌∷◌, ◌++◌, length, take, Option, Some, None, ◌⊎◌, inl, inr, refl, ap, sym, subst, ◌∙◌, arith, append-nil, length-append, eq-eqb, eqb-true}
-use Rattle.std.specs.Prelude.{◌==◌, ◌&&◌, flat_map, slice_get}
-use Rattle.std.specs.Option.{option_map}
+use Rattle.std.specs.Prelude.{◌==◌, ◌&&◌, ◌||◌, flat_map, slice_get, unwrap_or}
+use Rattle.std.specs.List.{list_any}
 use Rattle.std.proofs.lemmas.Bool.{and_parts, false≢true}
 use Rattle.std.proofs.lemmas.List.{take-append-le}
+use Rattle.std.proofs.lemmas.List.Folds.{list_any-append}
 use Rattle.std.proofs.lemmas.Option.{same_Some}
 use Rattle.p2p_base.specs.declared.key.Key.{Key}
 use Rattle.p2p_address.specs.declared.ip.SocketAddr.{SocketAddr}
@@ -27,20 +28,24 @@ use Rattle.p2p_log.proofs.Places.{slice_get-seam}
 use Rattle.p2p_log.proofs.Sending.{get_longer}
 use Rattle.p2p_log_rules.specs.declared.row.Opening.{Opening}
 use Rattle.p2p_log_rules.specs.declared.row.Row.{Row}
-use Rattle.p2p_log_rules.specs.Attempting.{Attempt, DialRules, dial_rules_at, drawn_address, dialing, resolved, attempts_of, connect_row}
-use Rattle.p2p_log_rules.proofs.Attempts.{begun_of, stepped_attempt, told_addresses, told_answer, told_link, and_then, acted_attempts}
+use Rattle.p2p_log_rules.specs.Attempting.{Attempt, DialRules, dial_rules_at, answers, attempt_since, attempt_by_last, attempts_of, connect_row}
 use Rattle.p2p_log_rules.specs.Effect.{effect, row}
-use Rattle.p2p_log_rules.specs.Facts.{item_named, key_at, taken, with_named, with_begun}
+use Rattle.p2p_log_rules.specs.Facts.{item_named, key_at, taken, state_from}
 use Rattle.p2p_log_rules.specs.Handshakes.{handshakes_of, is_handshaking, peer_of, peer_at}
 use Rattle.p2p_log_rules.specs.Lawful.{IsLawful}
 use Rattle.p2p_log_rules.specs.Links.{openings_of}
-use Rattle.p2p_log_rules.proofs.Attempts.{attempts_of-late}
-use Rattle.p2p_log_rules.proofs.Trying.{attempts_of-effect}
-use Rattle.p2p_log_rules.proofs.Handshakes.{is_among, handshakes_of-append, handshaking_early}
+use Rattle.p2p_log_rules.specs.Tellings.{Telling, Last, or_last, last_told, last_or}
+use Rattle.p2p_log_rules.specs.Tellings as telling
+use Rattle.p2p_log_rules.specs.Told.{Begun, begins, ends, act_tells, tells, told}
+use Rattle.p2p_log_rules.proofs.Families.{kind, has, untold_act}
+use Rattle.p2p_log_rules.proofs.Ignoring.{by_entries}
+use Rattle.p2p_log_rules.proofs.Tellings.{told-append}
+use Rattle.p2p_log_rules.proofs.Told.{quiet_act}
+use Rattle.p2p_log_rules.proofs.Handshakes.{handshaking_early}
 use Rattle.p2p_log_rules.proofs.Recorded.{item_named-first}
 use Rattle.p2p_log_rules.proofs.TakenAt.{taken_at-longer, taken_at-last}
 use Rattle.p2p_log_rules.proofs.Touches.{in_ends}
-use Rattle.p2p_log_laws.proofs.Admitting.{Admits, listener_admits, IsBegun, acted}
+use Rattle.p2p_log_laws.proofs.Admitting.{Admits, listener_admits, IsBegun, begun_or_before as begun_now}
 use Rattle.p2p_log_laws.proofs.EndMade.{in_list, take_whole}
 use Rattle.p2p_log_laws.proofs.GoingOn.{GoesOn, goes_on}
 use Rattle.p2p_log_laws.proofs.Linking.{IsAnswer, connect_is}
@@ -52,151 +57,135 @@ use Rattle.p2p_log_laws.proofs.Shapes.{row_shape}
 
 -- whether an act answers the dial of this attempt of the node
 abbrev pub answers_attempt : ℕ → ℕ → Act → Bool
-answers_attempt n k (act.Connect e from m to) = (m == n) && (e == k)
-answers_attempt n k (act.Refuse e m) = (m == n) && (e == k)
+answers_attempt n k (act.Connect e from m to) = (m == n) && (k == e)
+answers_attempt n k (act.Refuse e m) = (m == n) && (k == e)
 answers_attempt n k _ = false
 
--- it has its answer of before, or none, or that of the act of this name
-abbrev IsAnswered : (ℕ → Option Attempt) → ℕ → ℕ → ℕ → Act → Attempt → Type 0
-IsAnswered f n m k act a =
-    ((b : Attempt) × (f k ≡ Some b) × (a.answer ≡ b.answer)) ⊎ ((a.answer ≡ None) ⊎ ((a.answer ≡ Some m) × (answers_attempt n k act ≡ true)))
+either_is : (b c : Bool) → (b || c) ≡ true → (b ≡ true) ⊎ (c ≡ true)
+either_is true c is = inl refl
+either_is false c is = inr is
 
-keeps_answer : (b c a : Attempt) → Some c ≡ Some a → c.answer ≡ b.answer → a.answer ≡ b.answer
-keeps_answer b c a is keeps = ap (λ (x : Attempt). x.answer) (sym (same_Some c a is)) ∙ keeps
+pub or_more : (b c : Bool) → c ≡ true → (b || c) ≡ true
+or_more true c is = refl
+or_more false c is = is
 
-begun_unanswered : (timeout at : ℕ) (items : List Item) (b : Attempt) → begun_of timeout at items ≡ Some b → b.answer ≡ None
-begun_unanswered timeout at (item.Dial (Some grant) ∷ items) b is = ap (λ (x : Attempt). x.answer) (sym (same_Some _ b is))
-begun_unanswered timeout at _ b is = absurd (cc)
+module _ (n k l : ℕ) where
+  -- it is told that this event answered its dial
+  abbrev answered_by : Telling → Bool
+  answered_by (telling.dial_answered m j event) = ((m == n) && (k == j)) && (event == l)
+  answered_by _ = false
 
-module _ (rules : DialRules) (at seed : ℕ) where
-  dialing_answer : (o : Option SocketAddr) (b a : Attempt) → dialing o b ≡ Some a → a.answer ≡ b.answer
-  dialing_answer None b a is = absurd (cc)
-  dialing_answer (Some s) b a is = keeps_answer b (record b { address = Some s }) a is refl
+  answered_kinds : (t : Telling) → has (9 ∷ []) (kind t) ≡ false → answered_by t ≡ false
+  answered_kinds (telling.dial_answered m j event) h = cc
+  answered_kinds _ h = refl
 
-  resolved_answer : (s : Option SocketAddr) (private : Bool) (addresses : List SocketAddr) (b a : Attempt) → resolved s private addresses seed b ≡ Some a → a.answer ≡ b.answer
-  resolved_answer (Some s) private addresses b a is = keeps_answer b b a is refl
-  resolved_answer None private addresses b a is = dialing_answer (drawn_address private addresses seed) b a is
-
-  stepped_answer : (r : Reply) (items : List Item) (b a : Attempt) → stepped_attempt rules at seed r items b ≡ Some a → a.answer ≡ b.answer
-  stepped_answer reply.Ok (item.Resolved addresses ∷ items) b a is = resolved_answer b.address rules.private addresses b a is
-  stepped_answer reply.Ok (item.Linked ∷ items) b a is = ap (λ (x : Attempt). x.answer) (sym (same_Some _ a is))
-  stepped_answer reply.Ok _ b a is = absurd (cc)
-  stepped_answer _ items b a is = keeps_answer b b a is refl
-
-addresses_answer : (r : Reply) (b : Attempt) → (told_addresses r b).answer ≡ b.answer
-addresses_answer reply.Ok b = refl
-addresses_answer _ b = refl
-
-told_answers : (m : ℕ) (r : Reply) (b : Attempt) → ((told_answer m r b).answer ≡ b.answer) ⊎ ((told_answer m r b).answer ≡ Some m)
-told_answers m reply.Ok b = inr refl
-told_answers m _ b = inl refl
-
-told_links : (m : ℕ) (r : Reply) (puts : List (Queue × Item)) (b : Attempt) → ((told_link m r puts b).answer ≡ b.answer) ⊎ ((told_link m r puts b).answer ≡ Some m)
-told_links m reply.Ok (told ∷ arrival ∷ puts) b = inr refl
-told_links m reply.Ok (told ∷ []) b = inr refl
-told_links m reply.Ok [] b = inr refl
-told_links m _ puts b = inl refl
-
-module _ (rules : DialRules) (n m at seed : ℕ) (r : Reply) (items : List Item) (puts : List (Queue × Item)) (f : ℕ → Option Attempt) (k : ℕ) (x : Attempt) where
-  abbrev Answered : Act → Type 0
-  Answered a = IsAnswered f n m k a x
-
-  stays : (a : Act) → f k ≡ Some x → Answered a
-  stays a is = inl (x, is, refl)
-
-  -- of one that is named, where that is this one
-  named : (a : Act) (j e : ℕ) (o : Option Attempt) → ((j == n) ≡ true → (k == e) ≡ true → o ≡ Some x → Answered a) → cond (j == n) (with_named e o f k) (f k) ≡ Some x → Answered a
-  named a j e o here = by (j == n) (k == e) refl refl
+  -- the last answer that was told, or else the one before
+  last_answer : (ts : List Telling) (o : Option ℕ) → last_or o (answers n k) ts ≡ Some l → (o ≡ Some l) ⊎ (list_any answered_by ts ≡ true)
+  last_answer [] o is = inl is
+  last_answer (t ∷ ts) o is = elim (last_answer ts (unwrap_or (answers n k t) o) is) [
+    | inl before ↦ one t before
+    | inr later ↦ inr (or_more (answered_by t) (list_any answered_by ts) later)
+  ]
     where
-      by : (b c : Bool) → (j == n) ≡ b → (k == e) ≡ c → cond b (cond c o (f k)) (f k) ≡ Some x → Answered a
-      by true true node at is = here node at is
-      by true false node at is = stays a is
-      by false c node at is = stays a is
+      named : (b : Bool) (event : ℕ) → unwrap_or (cond b (Some (Some event)) None) o ≡ Some l → (o ≡ Some l) ⊎ (((b && (event == l)) || list_any answered_by ts) ≡ true)
+      named true event is = inr (ap (λ c. c || list_any answered_by ts) (eq-eqb event l (same_Some event l is)))
+      named false event is = inl is
 
-  there : (e : ℕ) (b : Attempt) → (k == e) ≡ true → f e ≡ Some b → f k ≡ Some b
-  there e b at is = ap f (eqb-true k e at) ∙ is
+      one : (t : Telling) → unwrap_or (answers n k t) o ≡ Some l → (o ≡ Some l) ⊎ (list_any answered_by (t ∷ ts) ≡ true)
+      one (telling.dial_answered m j event) is = named ((m == n) && (k == j)) event is
+      one _ is = inl is
 
-  of_then : (a : Act) (e : ℕ) (g : Attempt → Option Attempt) → ((b c : Attempt) → g b ≡ Some c → c.answer ≡ b.answer) → (k == e) ≡ true → (o : Option Attempt) → f e ≡ o → and_then g o ≡ Some x → Answered a
-  of_then a e g keeps at None is so = absurd (cc)
-  of_then a e g keeps at (Some b) is so = inl (b, there e b at is, keeps b x so)
-
-  of_map : (a : Act) (e : ℕ) (g : Attempt → Attempt) → ((b : Attempt) → ((g b).answer ≡ b.answer) ⊎ (((g b).answer ≡ Some m) × (answers_attempt n k a ≡ true))) → (k == e) ≡ true → (o : Option Attempt) → f e ≡ o
-      → option_map g o ≡ Some x → Answered a
-  of_map a e g keeps at None is so = absurd (cc)
-  of_map a e g keeps at (Some b) is so =
-      let same : g b ≡ x = same_Some (g b) x so in
-      elim (keeps b) [
-        | inl kept ↦ inl (b, there e b at is, ap (λ (y : Attempt). y.answer) (sym same) ∙ kept)
-        | inr told ↦ inr (inr (ap (λ (y : Attempt). y.answer) (sym same) ∙ told.0, told.1))
-      ]
-
-  begins : (a : Act) (j : ℕ) (o : Option Attempt) → ((b : Attempt) → o ≡ Some b → b.answer ≡ None) → cond (j == n) (with_begun o m f k) (f k) ≡ Some x → Answered a
-  begins a j None none = by (j == n)
+  -- what was told since the last of some kind was told
+  since_told : {X : Type 0} (pick : Telling → Option X) (ts : List Telling) (x : Last X) → last_told pick ts ≡ Some x → list_any answered_by x.since ≡ true → list_any answered_by ts ≡ true
+  unfolding last_told
+  since_told pick [] x is said = absurd (cc)
+  since_told {X = X} pick (t ∷ ts) x is said = by (last_told pick ts) (pick t) refl is (λ so. since_told pick ts x so said)
     where
-      by : (b : Bool) → cond b (f k) (f k) ≡ Some x → Answered a
-      by true is = stays a is
-      by false is = stays a is
-  begins a j (Some b) none = by (j == n) (k == m)
+      by : (o : Option (Last X)) (p : Option X) → last_told pick ts ≡ o → or_last o p ts ≡ Some x → (last_told pick ts ≡ Some x → list_any answered_by ts ≡ true) → list_any answered_by (t ∷ ts) ≡ true
+      by (Some y) p there so more = or_more (answered_by t) (list_any answered_by ts) (more (there ∙ so))
+      by None (Some y) there so more =
+          let z : Last X = record { told = y; since = ts } in
+          or_more (answered_by t) (list_any answered_by ts) (ap (λ (w : Last X). list_any answered_by w.since) (same_Some z x so) ∙ said)
+      by None None there so more = absurd (cc)
+
+  -- an attempt with this answer was told it
+  answer_told : (configs : List Config) (log : List Entry) (a : Attempt) → attempts_of configs log n k ≡ Some a → a.answer ≡ Some l → list_any answered_by (told log) ≡ true
+  unfolding attempts_of
+  answer_told configs log a is answer = by (last_told (begins n k) (told log)) refl is
     where
-      by : (c d : Bool) → cond c (cond d (Some b) (f k)) (f k) ≡ Some x → Answered a
-      by true true is = inr (inl (ap (λ (y : Attempt). y.answer) (sym (same_Some b x is)) ∙ none b refl))
-      by true false is = stays a is
-      by false d is = stays a is
+      rules : DialRules
+      rules = dial_rules_at configs n
 
-  same_either : (a b : ℕ) → (a == b) ≡ true → (b == a) ≡ true
-  same_either a b h = let same : a ≡ b = eqb-true a b h in eq-eqb b a (sym same)
+      by : (o : Option (Last Begun)) → last_told (begins n k) (told log) ≡ o → attempt_by_last n k rules o ≡ Some a → list_any answered_by (told log) ≡ true
+      by None there so = absurd (cc)
+      by (Some x) there so = stands (list_any (ends n k) x.since) so
+        where
+          stands : (b : Bool) → cond b None (Some (attempt_since n k rules x.told x.since)) ≡ Some a → list_any answered_by (told log) ≡ true
+          stands true so = absurd (cc)
+          stands false so = elim (last_answer x.since None (ap (λ (y : Attempt). y.answer) (same_Some (attempt_since n k rules x.told x.since) a so) ∙ answer)) [
+            | inl none ↦ absurd (cc)
+            | inr said ↦ since_told (begins n k) (told log) x there said
+          ]
 
-  both : (a b : Bool) → a ≡ true → b ≡ true → (a && b) ≡ true
-  both a b h i = ap (λ y. y && b) h ∙ i
+  -- only the act of this name tells it, and is an answer to this attempt
+  abbrev Answers : ℕ → Act → Type 0
+  Answers name a = (name ≡ l) × (answers_attempt n k a ≡ true)
 
-  pub acted_answer : (a : Act) → acted_attempts rules n m at seed r items puts a f k ≡ Some x → Answered a
-  acted_answer (act.Dialer j) = begins (act.Dialer j) j (begun_of rules.timeout at items) (begun_unanswered rules.timeout at items)
-  acted_answer (act.Attempt e j) =
-      named (act.Attempt e j) j e (and_then (stepped_attempt rules at seed r items) (f e))
-      (λ node here. of_then (act.Attempt e j) e (stepped_attempt rules at seed r items) (stepped_answer rules at seed r items) here (f e) refl)
-  acted_answer (act.Resolve addresses e j) =
-      named (act.Resolve addresses e j) j e (option_map (told_addresses r) (f e))
-      (λ node here. of_map (act.Resolve addresses e j) e (told_addresses r) (λ b. inl (addresses_answer r b)) here (f e) refl)
-  acted_answer (act.Connect e from j to) =
-      named (act.Connect e from j to) j e (option_map (told_link m r puts) (f e))
-      (λ node here.
-      of_map (act.Connect e from j to) e (told_link m r puts)
-      (λ b. elim (told_links m r puts b) [ inl kept ↦ inl kept | inr told ↦ inr (told, both (j == n) (e == k) node (same_either k e here)) ]) here (f e) refl)
-  acted_answer (act.Refuse e j) =
-      named (act.Refuse e j) j e (option_map (told_answer m r) (f e))
-      (λ node here.
-      of_map (act.Refuse e j) e (told_answer m r)
-      (λ b. elim (told_answers m r b) [ inl kept ↦ inl kept | inr told ↦ inr (told, both (j == n) (e == k) node (same_either k e here)) ]) here (f e) refl)
-  acted_answer a = stays a
+  act_answers : (ts : List Telling) (before : List Entry) (name at seed : ℕ) (r : Reply) (items : List Item) (puts : List (Queue × Item)) (a : Act)
+      → list_any answered_by (act_tells ts before name at seed r items puts a) ≡ true → Answers name a
+  act_answers ts before name at seed r items puts a = by a
+    where
+      Tells : Act → Bool
+      Tells a = list_any answered_by (act_tells ts before name at seed r items puts a)
+
+      silent : (a : Act) → Tells a ≡ false → Tells a ≡ true → Answers name a
+      silent a none some = absurd (false≢true (sym none ∙ some))
+
+      named : (a : Act) (b : Bool) → answers_attempt n k a ≡ b → (((b && (name == l)) ≡ false) → Tells a ≡ false) → Tells a ≡ true → Answers name a
+      named a b is other tells = go b (name == l) is refl other
+        where
+          go : (b c : Bool) → answers_attempt n k a ≡ b → (name == l) ≡ c → (((b && (name == l)) ≡ false) → Tells a ≡ false) → Answers name a
+          go true true is at other = (eqb-true name l at, is)
+          go true false is at other = silent a (other at) tells
+          go false c is at other = silent a (other refl) tells
+
+      by : (a : Act) → Tells a ≡ true → Answers name a
+      by (act.Connect e from m to) =
+          named (act.Connect e from m to) ((m == n) && (k == e)) refl (λ h. quiet_act answered_by name at ts before seed r items puts (act.Connect e from m to) (h, refl))
+      by (act.Refuse e m) = named (act.Refuse e m) ((m == n) && (k == e)) refl (λ h. quiet_act answered_by name at ts before seed r items puts (act.Refuse e m) h)
+      by a = silent a (untold_act answered_by (9 ∷ []) answered_kinds ts before name at seed r items puts a refl)
+
+  abbrev IsAnsweredIn : List Entry → Type 0
+  IsAnsweredIn log = list_any answered_by (told log) ≡ true → (e : Entry) × (slice_get log l ≡ Some e) × (answers_attempt n k e.event.act ≡ true)
+
+  answered_first : IsAnsweredIn []
+  unfolding told state_from
+  answered_first tells = absurd (false≢true tells)
+
+  answered_more : (log : List Entry) (e : Entry) → IsAnsweredIn log → IsAnsweredIn (log ++ e ∷ [])
+  unfolding tells
+  answered_more log e old so =
+      let us : List Telling = act_tells (told log) log (length log) e.event.at e.event.seed e.reply (taken log e) e.puts e.event.act in
+      by us refl (either_is (list_any answered_by (told log)) (list_any answered_by us) (sym (list_any-append answered_by (told log) us) ∙ (ap (list_any answered_by) (sym (told-append log e)) ∙ so)))
+    where
+      Was : List Entry → Type 0
+      Was log = (e : Entry) × (slice_get log l ≡ Some e) × (answers_attempt n k e.event.act ≡ true)
+
+      by : (us : List Telling) → us ≡ act_tells (told log) log (length log) e.event.at e.event.seed e.reply (taken log e) e.puts e.event.act → (list_any answered_by (told log) ≡ true) ⊎ (list_any answered_by us ≡ true) → Was (log ++ e ∷ [])
+      by us is (inl before) = let h = old before in (h.0, get_longer log (e ∷ []) l h.0 h.1, h.2)
+      by us is (inr now) =
+          let h = act_answers (told log) log (length log) e.event.at e.event.seed e.reply (taken log e) e.puts e.event.act (ap (list_any answered_by) (sym is) ∙ now) in
+          (e, subst (λ i. slice_get (log ++ e ∷ []) i ≡ Some e) h.0 (slice_get-seam log e []), h.1)
 
 -- the entry that answered an attempt is one of its own
-abbrev pub AnswersAreOwn : List Config → List Entry → Type 0
-AnswersAreOwn configs log =
-    (n k l : ℕ) (a : Attempt) → attempts_of configs log n k ≡ Some a → a.answer ≡ Some l → (e : Entry) × (slice_get log l ≡ Some e) × (answers_attempt n k e.event.act ≡ true)
-
-answers_first : (configs : List Config) → AnswersAreOwn configs []
-answers_first configs n k l a is answer = absurd (let none : attempts_of configs [] n k ≡ None = attempts_of-late configs [] n k (omega arith) in cc)
-
-answers_more : (configs : List Config) (log : List Entry) (ev : Event) → AnswersAreOwn configs log → AnswersAreOwn configs (log ++ effect configs log ev ∷ [])
-unfolding effect
-answers_more configs log ev old n k l a is answer =
-    let e : Entry = effect configs log ev in
-    by e (acted_answer (dial_rules_at configs n) n (length log) e.event.at e.event.seed e.reply (taken log e) e.puts (attempts_of configs log n) k a e.event.act (sym (attempts_of-effect configs log ev n k) ∙ is))
-  where
-    by : (e : Entry) → IsAnswered (attempts_of configs log n) n (length log) k e.event.act a → (d : Entry) × (slice_get (log ++ e ∷ []) l ≡ Some d) × (answers_attempt n k d.event.act ≡ true)
-    by e (inl before) = let h = old n k l before.0 before.1 (sym before.2 ∙ answer) in (h.0, get_longer log (e ∷ []) l h.0 h.1, h.2)
-    by e (inr (inl none)) = absurd (cc)
-    by e (inr (inr now)) =
-        let here : length log ≡ l = same_Some (length log) l (sym now.0 ∙ answer) in
-        (e, subst (λ i. slice_get (log ++ e ∷ []) i ≡ Some e) here (slice_get-seam log e []), now.1)
-
-pub answers_own : (configs : List Config) (script : List Event) (log : List Entry) → IsLawful configs script log → AnswersAreOwn configs log
-answers_own configs script log lawful = at_end configs (AnswersAreOwn configs) (answers_first configs) (answers_more configs) script log lawful
+pub answers_own : (configs : List Config) (log : List Entry) (n k l : ℕ) (a : Attempt) → attempts_of configs log n k ≡ Some a → a.answer ≡ Some l
+    → (e : Entry) × (slice_get log l ≡ Some e) × (answers_attempt n k e.event.act ≡ true)
+answers_own configs log n k l a stands answer = by_entries (IsAnsweredIn n k l) (answered_first n k l) (answered_more n k l) log (answer_told n k l configs log a stands answer)
 
 -- one act answers one attempt
 pub one_answered : (n k j : ℕ) (a : Act) → answers_attempt n k a ≡ true → answers_attempt n j a ≡ true → k ≡ j
-one_answered n k j (act.Connect e from m to) first second = sym (eqb-true e k (and_parts (m == n) (e == k) first).1) ∙ eqb-true e j (and_parts (m == n) (e == j) second).1
-one_answered n k j (act.Refuse e m) first second = sym (eqb-true e k (and_parts (m == n) (e == k) first).1) ∙ eqb-true e j (and_parts (m == n) (e == j) second).1
+one_answered n k j (act.Connect e from m to) first second = eqb-true k e (and_parts (m == n) (k == e) first).1 ∙ sym (eqb-true j e (and_parts (m == n) (j == e) second).1)
+one_answered n k j (act.Refuse e m) first second = eqb-true k e (and_parts (m == n) (k == e) first).1 ∙ sym (eqb-true j e (and_parts (m == n) (j == e) second).1)
 one_answered n k j _ first second = absurd (false≢true first)
 
 -- ---- an arrival is put by the entry of its link
@@ -342,8 +331,8 @@ module _ (configs : List Config) where
         items : (x : Envelope) (rest : List Envelope) → line log (queue.Arrivals n) ≡ x ∷ rest → (row configs log ev.at ev.seed ev.act).takes ≡ name_of x ∷ [] → taken log (effect configs log ev) ≡ x.item ∷ []
         items x rest first takes = taken_one log e x (item_named-first log (queue.Arrivals n) x rest first) takes
 
-    begun_or_before : (h : ℕ) → is_handshaking (log ++ e ∷ []) n h ≡ true → (is_handshaking log n h ≡ true) ⊎ IsBegun n (length log) h (handshakes_of log n) e.event.act e.reply
-    begun_or_before h runs = acted n (length log) h (handshakes_of log n) e.reply (taken log e) e.event.act (ap (is_among h) (sym (handshakes_of-append log e n)) ∙ runs)
+    begun_or_before : (h : ℕ) → is_handshaking (log ++ e ∷ []) n h ≡ true → (is_handshaking log n h ≡ true) ⊎ IsBegun n h log e
+    begun_or_before h runs = begun_now n h log e runs
 
   arrived_more : (log : List Entry) (ev : Event) → AreArrived log → AreArrived (log ++ effect configs log ev ∷ [])
   unfolding effect

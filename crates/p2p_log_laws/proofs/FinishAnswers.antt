@@ -23,13 +23,15 @@ use Rattle.p2p_log_rules.specs.declared.row.ListeningEnd.{ListeningEnd}
 use Rattle.p2p_log_rules.specs.declared.row.ListeningEnd.TheVariants as listening
 use Rattle.p2p_log_rules.specs.declared.row.Row.{Row}
 use Rattle.p2p_log_rules.specs.Attempting.{Attempt, attempts_of}
-use Rattle.p2p_log_rules.specs.Handshakes.{is_accepted}
+use Rattle.p2p_log_rules.specs.Effect.{entry_of}
+use Rattle.p2p_log_rules.specs.Handshakes.{is_accepted, takes_acceptance}
+use Rattle.p2p_log_rules.proofs.HandshakeTook.{takes_none}
 use Rattle.p2p_log_rules.specs.Links.{openings_of, listening_ends_of, is_dialed, accepts, exchanged, dialing_puts, listening_puts, finished_row, verdict, finish_by, finish_row}
 use Rattle.p2p_log_rules.specs.Facts.{key_at}
 use Rattle.p2p_log_rules.specs.Rows.{only}
 use Rattle.p2p_log_laws.specs.Grants.{one}
 use Rattle.p2p_log_laws.specs.OneAnswer.{Words, tells, is_for, is_end_of, leads_to, ends_exchange}
-use Rattle.p2p_log_laws.proofs.Answering.{Silent, silent_away, Answers, quiet}
+use Rattle.p2p_log_laws.proofs.Answering.{Silent, silent_away, accepts_now, Answers, quiet}
 use Rattle.p2p_log_laws.proofs.Shape.{no_moves}
 use Rattle.p2p_log_laws.proofs.Weighing.{count_by-one}
 
@@ -52,13 +54,17 @@ module _ (w : Words) (sound : (w.acceptance && w.refusal) ≡ false) (n name : �
   abbrev told : Opening → Bool → Option Attempt → Option ListeningEnd → Row
   told o agree dialing end = record { reply = reply.Ok; takes = []; puts = dialing_puts o.node o.attempt agree dialing ++ listening_puts o.to agree end; ends = [] }
 
-  -- it is no end of the handshake
+  -- it is no step of the handshake
+  none_now : (r : Row) → accepts_now w n name log ev r ≡ false
+  none_now r = takes_none takes_acceptance log (entry_of ev r) n name (λ so. cc)
+
+  -- nor an end of it
   aside : (o : Opening) (agree : Bool) (dialing : Option Attempt) (end : Option ListeningEnd) → Each (Silent w n name) (listening_puts o.to agree end)
       → Answers w n name log ev (told o agree dialing end)
   aside o agree dialing end silent =
       let r : Row = told o agree dialing end in
       quiet w n name log ev r (no_moves log r refl refl)
-      (Each-append (Silent w n name) (dialing_puts o.node o.attempt agree dialing) (listening_puts o.to agree end) (dialing_silent o agree dialing) silent) refl
+      (Each-append (Silent w n name) (dialing_puts o.node o.attempt agree dialing) (listening_puts o.to agree end) (dialing_silent o agree dialing) silent) (none_now r)
 
   -- a handshake of another name, or of another node
   other_silent : (m h : ℕ) (agree : Bool) → ((m == n) && (h == name)) ≡ false → Silent w n name (queue.Handshake m h, item.Finished agree)
@@ -106,7 +112,7 @@ module _ (w : Words) (sound : (w.acceptance && w.refusal) ≡ false) (n name : �
             one_put = enough (count_by (is_for w n name) (puts ++ x ∷ [])) (count_by (is_for w n name) puts) (count_by (is_for w n name) (x ∷ [])) (one (is_for w n name x))
                 (one (not w.acceptance || is_accepted log n name)) (sum_by-append (λ y. cond (is_for w n name y) 1 0) puts (x ∷ []))
                 (count_by-none (is_for w n name) puts (dialing_silent o agree dialing)) (count_by-one (is_for w n name) x) (put_few agree accepted (same_queue (queue.Handshake n name) (queue.Handshake o.to h)));
-            none_accepted = refl;
+            none_accepted = none_now r;
           }));
         }
       where
@@ -130,7 +136,7 @@ module _ (w : Words) (sound : (w.acceptance && w.refusal) ≡ false) (n name : �
 
   by_verdict : (o : Opening) → openings_of log link ≡ Some o → (dialing : Option Attempt) (dialed : Option Key) (end : Option ListeningEnd) → listening_ends_of log o.to link ≡ end
       → (v : Option Bool) → verdict configs log ok o.to dialed end ≡ v → Answers w n name log ev (finished_row o dialing end v)
-  by_verdict o is dialing dialed end ends None said = quiet w n name log ev (only reply.Pending) (no_moves log (only reply.Pending) refl refl) tt refl
+  by_verdict o is dialing dialed end ends None said = quiet w n name log ev (only reply.Pending) (no_moves log (only reply.Pending) refl refl) tt (none_now (only reply.Pending))
   by_verdict o is dialing dialed end ends (Some agree) said =
       by_end o is agree dialing end ends
       (λ so. agreed (is_some dialed && is_some end) (ok && is_dialed (key_at configs o.to) dialed) (accepts log o.to end) (said ∙ ap Some so))
@@ -142,7 +148,7 @@ module _ (w : Words) (sound : (w.acceptance && w.refusal) ≡ false) (n name : �
         | None ↦ only reply.Gone
         | Some o ↦ finish_by configs log ok o (attempts_of configs log o.node o.attempt) (listening_ends_of log o.to link)
       ])
-      by None is = quiet w n name log ev (only reply.Gone) (no_moves log (only reply.Gone) refl refl) tt refl
+      by None is = quiet w n name log ev (only reply.Gone) (no_moves log (only reply.Gone) refl refl) tt (none_now (only reply.Gone))
       by (Some o) is =
           let dialing : Option Attempt = attempts_of configs log o.node o.attempt in
           let dialed : Option Key = option_map (λ (a : Attempt). a.key) dialing in

@@ -3,6 +3,7 @@ use Rattle.std.proofs.Common.{◌≡◌, ℕ, ◌+◌, ◌≤◌, Bool, true, fa
 use Rattle.std.specs.Prelude.{◌&&◌, ◌||◌}
 use Rattle.std.specs.List.{AllByRecursion as Each}
 use Rattle.std.proofs.lemmas.List.Sums.{sum_by-cons}
+use Rattle.p2p_log_rules.proofs.Bools.{and_false}
 use Rattle.p2p_base.specs.declared.key.Key.{Key}
 use Rattle.p2p_log.specs.declared.config.Config.{Config}
 use Rattle.p2p_log.specs.declared.queue.Queue.{Queue}
@@ -69,10 +70,6 @@ module _ (n : ℕ) (key : Key) (log : List Entry) (h : ℕ) where
       zero_false false is = refl
       zero_false true is = cc
 
-      and_false : (b : Bool) → (b && false) ≡ false
-      and_false true = refl
-      and_false false = refl
-
   module _ (x : Envelope) (rest : List Envelope) (first : line log q ≡ x ∷ rest) where
     behind : (w : Words) → tells w x.item ≡ true → HasOne n h w log → weight (is_for w n h) rest ≡ 0
     behind w counts h_one =
@@ -110,10 +107,10 @@ module _ (configs : List Config) (n : ℕ) where
   stand_first = record { fitting = subst (Each StandsFit) (sym live-none) tt; handshakes = handshakes_first configs n; unended = λ k past. is_ended-none n k }
 
   -- what ends was made
-  ends_early : (log : List Entry) (ev : Event) → Each StandsFit (live log) → (k : ℕ) → length log ≤ k → ends_connection n k (effect configs log ev) ≡ false
-  ends_early log ev fitting k past = by (ends_connection n k (effect configs log ev)) refl
+  ends_early : (log : List Entry) (ev : Event) → Each StandsFit (live log) → (k : ℕ) → length log ≤ k → ends_connection n k log (effect configs log ev) ≡ false
+  ends_early log ev fitting k past = by (ends_connection n k log (effect configs log ev)) refl
     where
-      by : (b : Bool) → ends_connection n k (effect configs log ev) ≡ b → b ≡ false
+      by : (b : Bool) → ends_connection n k log (effect configs log ev) ≡ b → b ≡ false
       by false is = refl
       by true is =
           let over = end_row_is configs log ev n k fitting is in
@@ -133,7 +130,7 @@ module _ (configs : List Config) (n : ℕ) where
         unended = λ k past.
             let longer : length (log ++ entry_of ev r ∷ []) ≡ length log + 1 = length-append log (entry_of ev r ∷ []) in
             let early : length log ≤ k = omega (arith, past, longer) in
-            is_ended-append log (entry_of ev r) n k ∙ (ap (λ b. b || ends_connection n k (entry_of ev r)) (stand.unended k early) ∙ ends_early log ev stand.fitting k early);
+            is_ended-append log (entry_of ev r) n k ∙ (ap (λ b. b || ends_connection n k log (entry_of ev r)) (stand.unended k early) ∙ ends_early log ev stand.fitting k early);
       }
 
   pub first_grants : (key : Key) (log : List Entry) → Stand configs n log → (h : ℕ) → GrantsFirst n key log h

@@ -75,7 +75,7 @@ module _ (configs : List Config) (log : List Entry) (conn n at : ℕ) (P : Queue
     written false false (y ∷ ys) = inl (refl, each (y ∷ ys))
     written false true ys = inl (refl, (link half.link half.writes (item.Frame None ping_frame), each ys))
 
-    told : (xs : List Envelope) (room : Bool) (r : Row) → Steps r → Steps (Effect.told_row log n conn half xs room r)
+    told : (xs : List Envelope) (room : Bool) (r : Row) → Steps r → Steps (Effect.told_to_end_row log n conn half xs room r)
     told [] room r s = s
     told (x ∷ xs) true r s = over half lived ended.Killed cause.ConnectionEnded (x ∷ [])
     told (x ∷ xs) false r s = s

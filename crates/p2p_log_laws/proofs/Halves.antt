@@ -20,7 +20,7 @@ use Rattle.p2p_log_rules.specs.Connections.{half_at}
 use Rattle.p2p_log_rules.specs.Effect.{other_side}
 use Rattle.p2p_log_rules.specs.Facts.{key_at}
 use Rattle.p2p_log_rules.specs.Lawful.{IsLawful}
-use Rattle.p2p_log_rules.specs.Dialed.{dialed_by, dialer_of}
+use Rattle.p2p_log_rules.specs.Dialed.{dialer_of}
 use Rattle.p2p_log_rules.specs.Spawning.{connections_of}
 use Rattle.p2p_log_rules.proofs.Connections.{HalfParts, half_parts}
 use Rattle.p2p_log_rules.proofs.Dialed.{dialer_of-entry}
@@ -32,15 +32,14 @@ use Rattle.p2p_log_laws.proofs.OneConnection.{same_ends, connections_are_one, en
 -- ---- who dialed
 
 -- the node from which a link leads dialed it
-links_dialer : (log : List Entry) (link from to : ℕ) → Links log link from to → dialer_of log link ≡ Some from
+pub links_dialer : (log : List Entry) (link from to : ℕ) → Links log link from to → dialer_of log link ≡ Some from
 links_dialer log link from to l =
-    dialer_of-entry log link l.entry from l.at
-    (ap (λ a. dialed_by a l.entry.reply l.entry.puts) l.acts ∙ (ap (λ r. dialed_by (act.Connect l.attempt l.address from to) r l.entry.puts) l.done ∙ by_puts l.entry.puts l.arrives))
+    by l.entry.puts refl l.arrives
   where
-    by_puts : (puts : List (Queue × Item)) → slice_get puts 1 ≡ Some (queue.Arrivals to, item.Arrival l.address l.key link) → dialed_by (act.Connect l.attempt l.address from to) reply.Ok puts ≡ Some from
-    by_puts [] h = absurd (cc)
-    by_puts (told ∷ []) h = absurd (cc)
-    by_puts (told ∷ arrival ∷ puts) h = refl
+    by : (puts : List (Queue × Item)) → l.entry.puts ≡ puts → slice_get puts 1 ≡ Some (queue.Arrivals to, item.Arrival l.address l.key link) → dialer_of log link ≡ Some from
+    by [] is h = absurd (cc)
+    by (one ∷ []) is h = absurd (cc)
+    by (one ∷ two ∷ rest) is h = dialer_of-entry log link l.entry l.attempt from to l.address one two rest l.at l.acts l.done is
 
 abbrev out_by : Bool → Side
 out_by b = cond b side.Out side.In

@@ -4,6 +4,7 @@ use Rattle.std.specs.Prelude.{◌==◌, ◌&&◌, ◌||◌, count_by}
 use Rattle.std.specs.List.{AllByRecursion as Each}
 use Rattle.std.proofs.lemmas.Bool.{and_parts}
 use Rattle.std.proofs.lemmas.Bool.Decides.{nat_tests}
+use Rattle.p2p_log_rules.proofs.Bools.{and_false}
 use Rattle.p2p_base.specs.declared.key.Key.{Key}
 use Rattle.p2p_log.specs.declared.config.Config.{Config}
 use Rattle.p2p_log.specs.declared.queue.Queue.{Queue}
@@ -30,7 +31,8 @@ use Rattle.p2p_log_rules.specs.Puts.{broke_off}
 use Rattle.p2p_log_rules.specs.Effect.{entry_of}
 use Rattle.p2p_log_rules.specs.Facts.{taken}
 use Rattle.p2p_log_rules.specs.Handshakes.{is_handshaking, is_finished, takes_acceptance, Peer, peer_at}
-use Rattle.p2p_log_rules.specs.Handshaking.{handshake_deadline, ended_row, took_row, is_due, handshake_turn, handshake_row}
+use Rattle.p2p_log_rules.proofs.HandshakeTook.{apart_step, takes_none, takes_step}
+use Rattle.p2p_log_rules.specs.Handshaking.{handshake_deadline, ended_row, handshake_took_row, is_due, handshake_turn, handshake_row}
 use Rattle.p2p_log_rules.specs.Moves.{Moves}
 use Rattle.p2p_log_rules.specs.Rows.{only, is_spawner_full}
 use Rattle.p2p_log_rules.proofs.Moves.{one_taken}
@@ -41,7 +43,6 @@ use Rattle.p2p_log_laws.proofs.Answering.{Silent, silent_away, silent_item, acce
 use Rattle.p2p_log_laws.proofs.DropShape.{each_dropping}
 use Rattle.p2p_log_laws.proofs.HandshakeShape.{handshake_shape}
 use Rattle.p2p_log_laws.proofs.LineShape.{left_gone, whole_taken}
-use Rattle.p2p_log_laws.proofs.Plain.{and_false}
 use Rattle.p2p_log_laws.proofs.Shape.{no_moves, one_move}
 use Rattle.p2p_log_laws.proofs.Weighing.{weight, count_by-one, taken_items}
 
@@ -62,7 +63,7 @@ module _ (w : Words) (n name : ℕ) (configs : List Config) (log : List Entry) (
       by false there = silent_away w n name (queue.Tracker m) (item.AskListen k key) (ap (λ b. b && true) (turned m n there)) refl
 
   module _ (k m : ℕ) (other : ((m == n) && (k == name)) ≡ false) where
-    took_silent : (full : Bool) (peer : Peer) (took : ℕ × ℕ) (i : Item) (left : List Envelope) → Each (Silent w n name) (took_row m full k peer took i left).puts
+    took_silent : (full : Bool) (peer : Peer) (took : ℕ × ℕ) (i : Item) (left : List Envelope) → Each (Silent w n name) (handshake_took_row m full k peer took i left).puts
     took_silent full peer took (item.Acceptable true) left = tt
     took_silent full peer took (item.Acceptable false) left = tt
     took_silent full peer took (item.Finished true) left = (asked_silent k m peer.key other, tt)
@@ -90,7 +91,7 @@ module _ (w : Words) (n name : ℕ) (configs : List Config) (log : List Entry) (
     other_answers =
         let r : Row = handshake_step_row configs log k m at in
         quiet w n name log (event (act.Handshake k m)) r (handshake_shape configs log k m at).moves row_silent
-        (ap (λ b. b && takes_acceptance (taken log (entry_of (event (act.Handshake k m)) r))) other)
+        (takes_none takes_acceptance log (entry_of (event (act.Handshake k m)) r) n name (apart_step n name m k other))
 
   -- ---- its own
 
@@ -104,13 +105,13 @@ module _ (w : Words) (n name : ℕ) (configs : List Config) (log : List Entry) (
   idle : (rep : Reply) → Answers w n name log ev (only rep)
   idle rep =
       let m : Moves log (only rep) = no_moves log (only rep) refl refl in
-      quiet w n name log ev (only rep) m tt (ap (λ l. ((n == n) && (name == name)) && takes_acceptance l) (taken_items log ev (only rep) m) ∙ and_false ((n == n) && (name == name)))
+      quiet w n name log ev (only rep) m tt (takes_step takes_acceptance log (entry_of ev (only rep)) n name refl ∙ ap takes_acceptance (taken_items log ev (only rep) m))
 
   expired : Answers w n name log ev (ended_row [] [])
   expired =
       let r : Row = ended_row [] [] in
       let m : Moves log r = no_moves log r refl refl in
-      quiet w n name log ev r m tt (ap (λ l. ((n == n) && (name == name)) && takes_acceptance l) (taken_items log ev r m) ∙ and_false ((n == n) && (name == name)))
+      quiet w n name log ev r m tt (takes_step takes_acceptance log (entry_of ev r) n name refl ∙ ap takes_acceptance (taken_items log ev r m))
 
   module _ (x : Envelope) (rest : List Envelope) (first : line log q ≡ x ∷ rest) where
     stood : x.queue ≡ q
@@ -139,8 +140,7 @@ module _ (w : Words) (n name : ℕ) (configs : List Config) (log : List Entry) (
 
         now : accepts_now w n name log ev r ≡ takes_acceptance (x.item ∷ [])
         now =
-            ap (λ b. (b && (name == name)) && takes_acceptance (taken log (entry_of ev r))) (eq-eqb n n refl)
-            ∙ (ap (λ b. b && takes_acceptance (taken log (entry_of ev r))) (eq-eqb name name refl) ∙ ap takes_acceptance (taken_items log ev r m ∙ ap (map (λ y. y.item)) is))
+            takes_step takes_acceptance log (entry_of ev r) n name refl ∙ ap takes_acceptance (taken_items log ev r m ∙ ap (map (λ y. y.item)) is)
 
     -- it goes on
     goes_on : (puts : List (Queue × Item)) (i : Item) → x.item ≡ i → FewOf (record { reply = reply.Ok; takes = name_of x ∷ []; puts = puts; ends = [] }) i
@@ -175,7 +175,7 @@ module _ (w : Words) (n name : ℕ) (configs : List Config) (log : List Entry) (
     asked_few false true = omega arith
     asked_few false false = omega arith
 
-    by_item : (full : Bool) (peer : Peer) (i : Item) → x.item ≡ i → Answers w n name log ev (took_row n full name peer (name_of x) i rest)
+    by_item : (full : Bool) (peer : Peer) (i : Item) → x.item ≡ i → Answers w n name log ev (handshake_took_row n full name peer (name_of x) i rest)
     by_item full peer (item.Acceptable true) is = goes_on [] (item.Acceptable true) is (accepted_few w.acceptance)
     by_item full peer (item.Acceptable false) is = ends [] tt (item.Acceptable false) is refl
     by_item full peer (item.Finished true) is =

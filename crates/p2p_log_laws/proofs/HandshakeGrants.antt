@@ -18,7 +18,7 @@ use Rattle.p2p_log.proofs.Queues.{same_queue-refl}
 use Rattle.p2p_log_rules.specs.declared.row.Row.{Row}
 use Rattle.p2p_log_rules.specs.Attempting.{left_ends, ready_row}
 use Rattle.p2p_log_rules.specs.Handshakes.{Peer}
-use Rattle.p2p_log_rules.specs.Handshaking.{ended_row, took_row, handshake_turn}
+use Rattle.p2p_log_rules.specs.Handshaking.{ended_row, handshake_took_row, handshake_turn}
 use Rattle.p2p_log_rules.specs.Moves.{Moves}
 use Rattle.p2p_log_rules.specs.Rows.{only}
 use Rattle.p2p_log_rules.proofs.Moves.{one_taken}
@@ -109,7 +109,7 @@ module _ (n : ℕ) (key : Key) (log : List Entry) (h : ℕ) where
           let same : one (grants_key key x.item) ≡ one (k.0 == key.0) = ap one is in
           ends_with (p ∷ []) (omega (arith, put, none, same))
 
-      by_item : (full : Bool) (peer : Peer) (i : Item) → x.item ≡ i → fits q i ≡ true → Hands (took_row n full h peer (name_of x) i rest)
+      by_item : (full : Bool) (peer : Peer) (i : Item) → x.item ≡ i → fits q i ≡ true → Hands (handshake_took_row n full h peer (name_of x) i rest)
       by_item full peer (item.Acceptable true) is fit = goes_on [] tt (ap (grants_key key) is)
       by_item full peer (item.Acceptable false) is fit = ends (ap (grants_key key) is)
       by_item full peer (item.Finished true) is fit =

@@ -20,7 +20,7 @@ use Rattle.p2p_log_rules.proofs.Moves.{one_taken}
 use Rattle.p2p_log_laws.specs.Grants.{one}
 use Rattle.p2p_log_laws.specs.NodeGrants.{put_of}
 use Rattle.p2p_log_laws.specs.OneAnswer.{answers, exchanges, is_asked, asks_for, waiting_asked, HasOneAnswer}
-use Rattle.p2p_log_laws.proofs.Exchanges.{AreLinked, linked_first, linked_more}
+use Rattle.p2p_log_laws.proofs.Exchanges.{Over, over_first, over_more}
 use Rattle.p2p_log_laws.proofs.OneAnswer.{Holds, holds_first, holds_next}
 use Rattle.p2p_log_laws.proofs.OneAsked.{Asked, asked_first, asked_more}
 use Rattle.p2p_log_laws.proofs.Prefixes.{at_end}
@@ -28,7 +28,7 @@ use Rattle.p2p_log_laws.proofs.Untold.{Untold, untold_first, untold_more}
 
 module _ (configs : List Config) (n : ℕ) where
   pub record AreHandshakes (log : List Entry) : Type 0 where
-    pub linked : AreLinked n log
+    pub over : (name : ℕ) → Over n name log
     pub unaccepted : (name : ℕ) → Untold takes_acceptance refl configs n name log
     pub answered : (name : ℕ) → Holds answers refl configs n name log
     pub exchanged : (name : ℕ) → Holds exchanges refl configs n name log
@@ -36,7 +36,7 @@ module _ (configs : List Config) (n : ℕ) where
 
   pub handshakes_first : AreHandshakes []
   handshakes_first = record {
-    linked = linked_first n;
+    over = λ name. over_first n name;
     unaccepted = λ name. untold_first takes_acceptance refl configs n name;
     answered = λ name. holds_first answers refl configs n name;
     exchanged = λ name. holds_first exchanges refl configs n name;
@@ -46,10 +46,10 @@ module _ (configs : List Config) (n : ℕ) where
   pub handshakes_more : (log : List Entry) (ev : Event) → AreHandshakes log → AreHandshakes (log ++ effect configs log ev ∷ [])
   unfolding effect
   handshakes_more log ev h = record {
-    linked = linked_more n log (effect configs log ev) h.linked;
+    over = λ name. over_more n name log (effect configs log ev) (h.over name);
     unaccepted = λ name. untold_more takes_acceptance refl configs n name log ev (h.unaccepted name);
-    answered = λ name. holds_next answers refl configs n name log ev h.linked (h.unaccepted name) (h.answered name);
-    exchanged = λ name. holds_next exchanges refl configs n name log ev h.linked (h.unaccepted name) (h.exchanged name);
+    answered = λ name. holds_next answers refl configs n name log ev (h.over name) (h.unaccepted name) (h.answered name);
+    exchanged = λ name. holds_next exchanges refl configs n name log ev (h.over name) (h.unaccepted name) (h.exchanged name);
     asked = λ name. asked_more configs n name log ev (h.answered name).one_waits (h.exchanged name).one_waits (h.asked name);
   }
 

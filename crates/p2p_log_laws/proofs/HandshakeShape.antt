@@ -2,6 +2,7 @@
 use Rattle.std.proofs.Common.{◌≡◌, ℕ, Bool, true, false, cond, List, [], ◌∷◌, map, take, Option, Some, None, inr, inl, refl, ap, sym, ◌∙◌}
 use Rattle.std.specs.Prelude.{slice_get, ◌||◌, ◌&&◌, not}
 use Rattle.std.specs.List.{AllByRecursion as Each, list_any}
+use Rattle.p2p_log_rules.proofs.Bools.{or_true}
 use Rattle.p2p_base.specs.declared.key.Key.{Key}
 use Rattle.p2p_log.specs.declared.config.Config.{Config}
 use Rattle.p2p_log.specs.declared.queue.Queue.{Queue}
@@ -31,16 +32,12 @@ use Rattle.p2p_log_rules.specs.Reading.{is_read}
 use Rattle.p2p_log_rules.specs.Rows.{only, is_spawner_full}
 use Rattle.p2p_log_rules.specs.Attempting.{left_ends, gone_on_row, ready_row}
 use Rattle.p2p_log_rules.specs.Handshakes.{ends_handshake, is_handshaking, is_finished, Peer, peer_at}
-use Rattle.p2p_log_rules.specs.Handshaking.{handshake_deadline, ended_row, exchanged_row, took_row, is_due, handshake_turn, handshake_row}
+use Rattle.p2p_log_rules.specs.Handshaking.{handshake_deadline, ended_row, exchanged_row, handshake_took_row, is_due, handshake_turn, handshake_row}
 use Rattle.p2p_log_laws.proofs.Reaching.{in_flight, writes, ends_in}
 use Rattle.p2p_log_laws.proofs.DropShape.{moves, handshake_aside, dropping_shape}
 use Rattle.p2p_log_laws.proofs.LineShape.{Within, still_within, still_took, ended_within, ended_took, asking_within, asking_took}
 use Rattle.p2p_log_laws.proofs.Shape.{Shape, IsQuiet}
 use Rattle.p2p_log_laws.proofs.Weighing.{taken_items}
-
-or_true : (b : Bool) → (b || true) ≡ true
-or_true true = refl
-or_true false = refl
 
 module _ (configs : List Config) (log : List Entry) (e n : ℕ) where
   abbrev a : Act
@@ -100,7 +97,7 @@ module _ (configs : List Config) (log : List Entry) (e n : ℕ) where
   ready_step true key link x rest first = left_step x rest first ((queue.Tracker n, item.Release key) ∷ []) ((refl, refl), tt) (asks, tt)
   ready_step false key link x rest first = left_step x rest first ((queue.Spawner n, item.Spawn key link) ∷ []) ((refl, refl), tt) (spawns, tt)
 
-  took_step : (full : Bool) (peer : Peer) (x : Envelope) (rest : List Envelope) → line log q ≡ x ∷ rest → (i : Item) → Stepped (x ∷ rest) (took_row n full e peer (name_of x) i rest)
+  took_step : (full : Bool) (peer : Peer) (x : Envelope) (rest : List Envelope) → line log q ≡ x ∷ rest → (i : Item) → Stepped (x ∷ rest) (handshake_took_row n full e peer (name_of x) i rest)
   took_step full peer x rest first (item.Acceptable true) = taken_step x rest first
   took_step full peer x rest first (item.Acceptable false) = left_step x rest first [] tt tt
   took_step full peer x rest first (item.Finished true) = exchanged_step x rest first peer.key

@@ -20,10 +20,10 @@ use Rattle.p2p_log.specs.Lines.{name_of, line, live, stays}
 use Rattle.p2p_log_rules.specs.declared.row.Half.{Half}
 use Rattle.p2p_log_rules.specs.declared.row.Row.{Row}
 use Rattle.p2p_base.specs.declared.key.Key.{Key}
-use Rattle.p2p_log_rules.specs.Attempting.{Attempt, dial_rules_at, attempts_of, resolved, resolved_row, ready_row, link_of, took_row}
+use Rattle.p2p_log_rules.specs.Attempting.{Attempt, dial_rules_at, attempts_of, resolved, resolved_row, ready_row, link_of, attempt_took_row}
 use Rattle.p2p_log_rules.specs.Closing.{is_closed, refused_by}
 use Rattle.p2p_log_rules.specs.Connections.{live_half, is_begun, is_running}
-use Rattle.p2p_log_rules.specs.Dialing.{Dials, dials_of, due_row, answered_row}
+use Rattle.p2p_log_rules.specs.Dialing.{Dials, dials_of, due_row, answer_taken_row}
 use Rattle.p2p_log_rules.specs.Dropping.{other_side, is_dropped}
 use Rattle.p2p_log_rules.specs.Effect.{effect, entry_of, row, route_row, batch_size_at, batch, written_row, deliver_row, delivered_row, message_row, ping_row, frame_row, retry_row, limit_at}
 use Rattle.p2p_log_rules.specs.Effect as effects
@@ -69,7 +69,7 @@ routed_serves configs log n name (item.Release key) items = refl
 routed_serves configs log n name (item.Content c frame priority send to) items = refl
 routed_serves configs log n name _ items = refl
 
-answered_serves : (n seed : ℕ) (d : Dials) (name : ℕ × ℕ) (i : Item) → fits (queue.Dialer n) i ≡ true → is_still (answered_row n seed d name i).reply ≡ false
+answered_serves : (n seed : ℕ) (d : Dials) (name : ℕ × ℕ) (i : Item) → fits (queue.Dialer n) i ≡ true → is_still (answer_taken_row n seed d name i).reply ≡ false
 answered_serves n seed d name (item.Dialable next peers) fit = refl
 answered_serves n seed d name (item.Dial None) fit = refl
 answered_serves n seed d name (item.Dial (Some grant)) fit = refl
@@ -92,14 +92,14 @@ resolved_serves : (o : Option Attempt) (n : ℕ) (key : Key) (name : ℕ × ℕ)
 resolved_serves None n key name left = refl
 resolved_serves (Some a) n key name left = refl
 
-tried_serves : (n : ℕ) (full private : Bool) (seed : ℕ) (a : Attempt) (name : ℕ × ℕ) (i : Item) (left : List Envelope) → is_still (took_row n full private seed a name i left).reply ≡ false
+tried_serves : (n : ℕ) (full private : Bool) (seed : ℕ) (a : Attempt) (name : ℕ × ℕ) (i : Item) (left : List Envelope) → is_still (attempt_took_row n full private seed a name i left).reply ≡ false
 tried_serves n full private seed a name (item.Resolved addresses) left = resolved_serves (resolved a.address private addresses seed a) n a.key name left
 tried_serves n full private seed a name item.Linked left = refl
 tried_serves n full private seed a name (item.Finished true) left = ready_serves n full a.key (link_of a.answer) name left
 tried_serves n full private seed a name (item.Finished false) left = refl
 tried_serves n full private seed a name _ left = refl
 
-shaken_serves : (n : ℕ) (full : Bool) (h : ℕ) (peer : Peer) (name : ℕ × ℕ) (i : Item) (left : List Envelope) → is_still (handshaking.took_row n full h peer name i left).reply ≡ false
+shaken_serves : (n : ℕ) (full : Bool) (h : ℕ) (peer : Peer) (name : ℕ × ℕ) (i : Item) (left : List Envelope) → is_still (handshaking.handshake_took_row n full h peer name i left).reply ≡ false
 shaken_serves n full h peer name (item.Acceptable true) left = refl
 shaken_serves n full h peer name (item.Acceptable false) left = refl
 shaken_serves n full h peer name (item.Finished true) left = refl
@@ -110,7 +110,7 @@ shaken_serves n full h peer name _ left = refl
 
 module _ (configs : List Config) (log : List Entry) (n conn : ℕ) (half : Half) where
   -- a ping, and what fits beside it
-  pinged_serves : (cs : List Envelope) (room dropped : Bool) (xs : List Envelope) → is_still (effects.told_row log n conn half cs room (written_row log n conn half dropped true xs)).reply ≡ false
+  pinged_serves : (cs : List Envelope) (room dropped : Bool) (xs : List Envelope) → is_still (effects.told_to_end_row log n conn half cs room (written_row log n conn half dropped true xs)).reply ≡ false
   pinged_serves (x ∷ cs) true dropped xs = refl
   pinged_serves (x ∷ cs) false true xs = refl
   pinged_serves (x ∷ cs) false false xs = refl

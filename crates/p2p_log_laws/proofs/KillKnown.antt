@@ -250,10 +250,10 @@ module _ (configs : List Config) (n : ℕ) (script : List Event) (log : List Ent
       abbrev After : Row → Type 0
       After r = Has_known (step_calls log r.reply (taken log (entry_of ev r)) at jitter (list_any grants_peer r.puts) calls)
 
-      unblocked_known : After (rows.told_row log [] (puts.unblocked_puts (rules configs n) n at us bs calls (call.UnblockExpired at)))
+      unblocked_known : After (rows.tracker_told_row log [] (puts.unblocked_puts (rules configs n) n at us bs calls (call.UnblockExpired at)))
       unblocked_known =
           let xs : List Put = puts.unblocked_puts (rules configs n) n at us bs calls (call.UnblockExpired at) in
-          subst (λ is. Has_known (step_calls log reply.Ok is at jitter (list_any grants_peer xs) calls)) (sym (taken_items log ev (rows.told_row log [] xs) (unblocked_moves log xs)))
+          subst (λ is. Has_known (step_calls log reply.Ok is at jitter (list_any grants_peer xs) calls)) (sym (taken_items log ev (rows.tracker_told_row log [] xs) (unblocked_moves log xs)))
           (plain_known (call.UnblockExpired at) (plain_fit (rules configs n) key (IsMade log n key) (call.UnblockExpired at) calls refl refl refl) old)
 
       served_known : puts.is_some_of (due_keys key_cmp (rules configs n) calls at) ≡ false → (xs : List Envelope) → line log (queue.Tracker n) ≡ xs → After (rows.served_row configs log n at xs)
@@ -261,7 +261,7 @@ module _ (configs : List Config) (n : ℕ) (script : List Event) (log : List Ent
       served_known none_due (x ∷ rest) first =
           let all : List Put = puts.item_puts (rules configs n) n at us bs calls log x.item in
           let xs : List Put = puts.heeded (is_ended log n) all in
-          subst (λ is. Has_known (step_calls log reply.Ok is at jitter (list_any grants_peer xs) calls)) (sym (taken_items log ev (rows.told_row log (name_of x ∷ []) xs) (served_moves log xs (queue.Tracker n) x rest first)))
+          subst (λ is. Has_known (step_calls log reply.Ok is at jitter (list_any grants_peer xs) calls)) (sym (taken_items log ev (rows.tracker_told_row log (name_of x ∷ []) xs) (served_moves log xs (queue.Tracker n) x rest first)))
           (subst (λ b. Has_known (item_calls log x.item at jitter b calls)) (sym (list_any-heeded (is_ended log n) grants_peer (λ m conn. refl) all))
           (item_known x rest first none_due jitter x.item refl old))
 
@@ -269,7 +269,7 @@ module _ (configs : List Config) (n : ℕ) (script : List Event) (log : List Ent
       step_known = by_due (puts.is_some_of (due_keys key_cmp (rules configs n) calls at)) refl
         where
           by_due : (b : Bool) → puts.is_some_of (due_keys key_cmp (rules configs n) calls at) ≡ b
-              → After (cond b (rows.told_row log [] (puts.unblocked_puts (rules configs n) n at us bs calls (call.UnblockExpired at))) (rows.served_row configs log n at (line log (queue.Tracker n))))
+              → After (cond b (rows.tracker_told_row log [] (puts.unblocked_puts (rules configs n) n at us bs calls (call.UnblockExpired at))) (rows.served_row configs log n at (line log (queue.Tracker n))))
           by_due true is = unblocked_known
           by_due false is = served_known is (line log (queue.Tracker n)) refl
 

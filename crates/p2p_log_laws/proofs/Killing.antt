@@ -149,7 +149,7 @@ module _ (configs : List Config) (log : List Entry) (n at : ℕ) where
   step_shown = by_due (puts.is_some_of (due_keys key_cmp rules calls at))
     where
       unblocked : Row
-      unblocked = rows.told_row log [] (puts.unblocked_puts rules n at us bs calls (call.UnblockExpired at))
+      unblocked = rows.tracker_told_row log [] (puts.unblocked_puts rules n at us bs calls (call.UnblockExpired at))
 
       by_due : (b : Bool) → Shown (cond b unblocked (rows.served_row configs log n at (line log (queue.Tracker n))))
       by_due true =

@@ -5,6 +5,7 @@ use Rattle.std.specs.List.{AllByRecursion as Each, list_any}
 use Rattle.std.proofs.lemmas.Bool.{cases_lt, false≢true}
 use Rattle.std.proofs.lemmas.List.Folds.{list_any-append}
 use Rattle.std.proofs.lemmas.Option.{same_Some}
+use Rattle.p2p_log_rules.proofs.Bools.{or_true}
 use Rattle.p2p_log.specs.declared.config.Config.{Config}
 use Rattle.p2p_log.specs.declared.queue.Queue.{Queue}
 use Rattle.p2p_log.specs.declared.item.Item.{Item}
@@ -86,10 +87,6 @@ named_any name (n ∷ ns) h = elim h [
   | inl e ↦ ap (λ b. b || list_any (same_name name) ns) (ap (same_name name) e ∙ same_name-refl name)
   | inr l ↦ ap (λ b. same_name name n || b) (named_any name ns l) ∙ or_true (same_name name n)
 ]
-  where
-    or_true : (b : Bool) → (b || true) ≡ true
-    or_true true = refl
-    or_true false = refl
 
 -- what is taken does not stay
 pub taken_goes : (e : Entry) (x : Envelope) → Has e.takes (name_of x) → stays (goes e) x ≡ false

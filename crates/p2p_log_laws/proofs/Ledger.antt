@@ -29,7 +29,7 @@ use Rattle.p2p_log.proofs.Taken.{AreTaken-first, Each-taken}
 use Rattle.p2p_log.specs.Taken.{AreTaken}
 use Rattle.p2p_log_laws.specs.OneEnd.{EachEndsOnce}
 use Rattle.p2p_log_laws.specs.Delivered.{HasKey, IsDelivery, EachIsDelivery}
-use Rattle.p2p_log_rules.specs.Reading.{reading_of, told, is_read}
+use Rattle.p2p_log_rules.specs.Reading.{reading_of, told_of_reading, is_read}
 use Rattle.p2p_log.specs.QueueCode.{owner_of}
 use Rattle.std.proofs.lemmas.Option.{same_Some}
 use Rattle.p2p_log_laws.proofs.Fitting.{fits, StandsFit}
@@ -119,7 +119,7 @@ IsDelivery-longer configs log more ends q bytes from h = record {
 }
 
 module _ (configs : List Config) (before : List Entry) (stand : Standing configs before) (r : Row) (a : Act) (m : Moves before r) where
-  delivery_of : (q : Queue) (i : Item) (bytes : List ℕ) (from : Key) → told q i ≡ reply.Message bytes from → r.ends ≡ map (λ copy. end.Copy copy.0 copy.1 outcome.Delivered) (copies_of i)
+  delivery_of : (q : Queue) (i : Item) (bytes : List ℕ) (from : Key) → told_of_reading q i ≡ reply.Message bytes from → r.ends ≡ map (λ copy. end.Copy copy.0 copy.1 outcome.Delivered) (copies_of i)
       → fits q i ≡ true → Tells configs before i q → IsDelivery configs before r.ends q bytes from
   delivery_of q (item.Message whole copy other) bytes from says ended fit tells =
       let froms : other ≡ from = cc in
@@ -135,7 +135,7 @@ module _ (configs : List Config) (before : List Entry) (stand : Standing configs
       let tells : StandTells configs before d.read = Each-has (StandTells configs before) m.taken d.read (Each-taken (StandTells configs before) (live before) m.taken stand.tells stood) d.has in
       let fit : StandsFit d.read = Each-has StandsFit m.taken d.read (Each-taken StandsFit (live before) m.taken stand.fitting stood) d.has in
       let queues : d.read.queue ≡ q = d.in_queue ∙ same_Some d.queue q (sym d.reads ∙ reads) in
-      delivery_of q d.read.item bytes from (ap (λ p. told p d.read.item) (sym (sym d.in_queue ∙ queues)) ∙ (sym d.tells ∙ said)) d.ended
+      delivery_of q d.read.item bytes from (ap (λ p. told_of_reading p d.read.item) (sym (sym d.in_queue ∙ queues)) ∙ (sym d.tells ∙ said)) d.ended
       (subst (λ p. fits p d.read.item ≡ true) queues fit) (subst (Tells configs before d.read.item) queues tells)
 
 delivered_at : (configs : List Config) (before : List Entry) (ev : Event) (q : Queue) (bytes : List ℕ) (from : Key) (e : Entry) → Told configs before

@@ -56,6 +56,7 @@ pub mod Flow
 pub mod Following
 pub mod FrameLaw
 pub mod GoingOn
+pub mod HandedSides
 pub mod Halves
 pub mod HalfSteps
 pub mod HandshakeAnswers

@@ -14,7 +14,7 @@ use Rattle.p2p_log.specs.declared.event.Act.TheVariants as act
 use Rattle.p2p_log.proofs.Places.{slice_get-seam}
 use Rattle.p2p_log.proofs.Sending.{get_longer}
 use Rattle.p2p_log_rules.specs.declared.row.Row.{Row}
-use Rattle.p2p_log_rules.specs.Attempting.{Attempt, attempts_of, answered_row, refuse_row, connected_row, connect_row}
+use Rattle.p2p_log_rules.specs.Attempting.{Attempt, attempts_of, dial_answered_row, refuse_row, connected_row, connect_row}
 use Rattle.p2p_log_rules.specs.Effect.{entry_of}
 use Rattle.p2p_log_rules.specs.Facts.{is_up, key_at}
 use Rattle.p2p_log_rules.specs.Rows.{only}
@@ -57,7 +57,7 @@ module _ (configs : List Config) (log : List Entry) (e n : ℕ) where
   IsRefused r = IsFree × (r.puts ≡ (queue.Attempt n e, item.Refused) ∷ [])
 
   answered_is : (a : Attempt) → attempts_of configs log n e ≡ Some a → (s : Option SocketAddr) (w : Option ℕ) → a.answer ≡ w
-      → IsUnanswered (answered_row s (is_some w) false e n) ⊎ IsRefused (answered_row s (is_some w) false e n)
+      → IsUnanswered (dial_answered_row s (is_some w) false e n) ⊎ IsRefused (dial_answered_row s (is_some w) false e n)
   answered_is a stands None w is = inl (λ h. cc, refl)
   answered_is a stands (Some s) (Some l) is = inl (λ h. cc, refl)
   answered_is a stands (Some s) None is = inr ((a, stands, is), refl)
@@ -66,8 +66,8 @@ module _ (configs : List Config) (log : List Entry) (e n : ℕ) where
   refuse_is = by (attempts_of configs log n e) refl
     where
       by : (o : Option Attempt) → attempts_of configs log n e ≡ o
-          → IsUnanswered (elim o [ None ↦ only reply.Gone | Some a ↦ answered_row a.address (is_some a.answer) false e n ])
-          ⊎ IsRefused (elim o [ None ↦ only reply.Gone | Some a ↦ answered_row a.address (is_some a.answer) false e n ])
+          → IsUnanswered (elim o [ None ↦ only reply.Gone | Some a ↦ dial_answered_row a.address (is_some a.answer) false e n ])
+          ⊎ IsRefused (elim o [ None ↦ only reply.Gone | Some a ↦ dial_answered_row a.address (is_some a.answer) false e n ])
       by None is = inl (λ h. cc, refl)
       by (Some a) is = answered_is a is a.address a.answer refl
 
@@ -89,10 +89,10 @@ module _ (configs : List Config) (log : List Entry) (e n : ℕ) where
 
     connected_is : (a : Attempt) → attempts_of configs log n e ≡ Some a → (s : Option SocketAddr) (w : Option ℕ) → a.answer ≡ w → (runs : Bool)
         → IsAnswer (connected_row s (is_some w) runs e n to arrival)
-    connected_is a stands None w is runs = unlinked (answered_row None (is_some w) false e n) (answered_is a stands None w is)
-    connected_is a stands (Some s) (Some l) is runs = unlinked (answered_row (Some s) true false e n) (answered_is a stands (Some s) (Some l) is)
+    connected_is a stands None w is runs = unlinked (dial_answered_row None (is_some w) false e n) (answered_is a stands None w is)
+    connected_is a stands (Some s) (Some l) is runs = unlinked (dial_answered_row (Some s) true false e n) (answered_is a stands (Some s) (Some l) is)
     connected_is a stands (Some s) None is true = inr (inr ((a, stands, is), refl, refl))
-    connected_is a stands (Some s) None is false = unlinked (answered_row (Some s) false false e n) (answered_is a stands (Some s) None is)
+    connected_is a stands (Some s) None is false = unlinked (dial_answered_row (Some s) false false e n) (answered_is a stands (Some s) None is)
 
     pub connect_is : IsAnswer (connect_row configs log e from n to)
     connect_is = by (attempts_of configs log n e) refl

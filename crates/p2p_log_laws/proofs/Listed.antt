@@ -20,14 +20,16 @@ use Rattle.p2p_log.specs.QueueCode.{same_queue}
 use Rattle.p2p_log_rules.specs.declared.row.Opening.{Opening}
 use Rattle.p2p_log_rules.specs.declared.row.Row.{Row}
 use Rattle.p2p_log_rules.specs.Connections.{is_ended}
-use Rattle.p2p_log_rules.specs.Effect.{effect, entry_of, row, router_row, route_oldest, route_row, only, peers_put, spread, mailbox_size_at}
-use Rattle.p2p_log_rules.specs.Facts.{is_up, item_named, taken, state_from, steps_router, routed_by, subscribers, with_route, routes, keys_in, peers_told}
+use Rattle.p2p_log_rules.specs.Effect.{effect, entry_of, row, router_row, route_oldest, answer_puts, route_row, only, peers_put, spread, mailbox_size_at}
+use Rattle.p2p_log_rules.specs.Facts.{is_up, item_named, taken, state_from, subscribers, with_route, routes, keys_in, peers_told, wants_lists}
 use Rattle.p2p_log_rules.specs.Lawful.{IsLawful}
 use Rattle.p2p_log_rules.specs.Links.{openings_of}
 use Rattle.p2p_log_rules.specs.Told.{told}
 use Rattle.p2p_log_rules.proofs.Facts.{list_any-last}
 use Rattle.p2p_log_rules.proofs.Recorded.{item_named-first}
-use Rattle.p2p_log_rules.proofs.Routing.{subscriber_of, subscribers-append, routes_after, routes-append, list_put, lists_put, newest, peers_told-routed, peers_told-kept, peers_told-none}
+use Rattle.p2p_log_rules.specs.Routed.{routed_tells}
+use Rattle.p2p_log_rules.proofs.Families.{kinds_of, are_apart}
+use Rattle.p2p_log_rules.proofs.Routing.{route_kinds, TellsNoRouter, router_apart, router_elsewhere, router_untaken, subscribers-kept, routes-kept, subscribers-routed, routes-routed, wants_lists-item, list_put, lists_put, newest, peers_told-routed, peers_told-kept, peers_told-none}
 use Rattle.p2p_log_rules.proofs.Touches.{in_ends, away}
 use Rattle.p2p_log_laws.proofs.Reaching.{writes}
 use Rattle.p2p_log_laws.specs.Listed.{ListsAreCurrent}
@@ -60,8 +62,9 @@ module _ (n c : ℕ) where
       by (item.Peers keys) = ap (λ b. cond b (keys ∷ []) []) elsewhere
       by _ = refl
 
-  writes_none : (configs : List Config) (log : List Entry) (a : Act) → steps_router n a ≡ false → writes configs log a (queue.Peers n c) ≡ false
-  writes_none configs log (act.Router m) h = grind (arith, nat_tests)
+  -- an act other than a step of a router
+  writes_none : (configs : List Config) (log : List Entry) (a : Act) → are_apart (kinds_of a) route_kinds ≡ true → writes configs log a (queue.Peers n c) ≡ false
+  writes_none configs log (act.Router m) h = cc
   writes_none configs log (act.Finish link ok) h = by (openings_of log link)
     where
       by : (o : Option Opening) → in_ends o (queue.Peers n c) ≡ false
@@ -69,14 +72,13 @@ module _ (n c : ℕ) where
       by (Some o) = refl
   writes_none configs log _ h = refl
 
-  -- what the router has, where it takes nothing
-  kept : (log : List Entry) (e : Entry) → lists_put n c e ≡ [] → routed_by n log e ≡ [] → IsCurrent log → IsCurrent (log ++ e ∷ [])
-  kept log e none untaken h =
+  -- what the router has, where nothing is told of it
+  kept : (log : List Entry) (e : Entry) → lists_put n c e ≡ [] → TellsNoRouter log e n → IsCurrent log → IsCurrent (log ++ e ∷ [])
+  kept log e none quiet h =
       peers_told-kept log e n c none
       ∙ (h
-      ∙ (ap (λ cs. cond (hears cs) (keys_in (routes log n)) [])
-      (sym (subscribers-append log e n ∙ (ap (λ l. subscribers log n ++ flat_map subscriber_of l) untaken ∙ append-nil (subscribers log n))))
-      ∙ ap (λ rs. cond (hears (subscribers (log ++ e ∷ []) n)) (keys_in rs) []) (sym (routes-append log e n ∙ ap (routes_after (routes log n)) untaken))))
+      ∙ (ap (λ cs. cond (hears cs) (keys_in (routes log n)) []) (sym (subscribers-kept log e n quiet))
+      ∙ ap (λ rs. cond (hears (subscribers (log ++ e ∷ []) n)) (keys_in rs) []) (sym (routes-kept log e n quiet))))
 
   -- ---- a router's step that takes an item
 
@@ -105,27 +107,22 @@ module _ (n c : ℕ) where
     after i = entry_of ev (route_row configs log n (name_of x) i left)
 
     -- what it took
-    took : (r : Row) → r.takes ≡ name_of x ∷ [] → routed_by n log (entry_of ev r) ≡ x.item ∷ []
+    took : (r : Row) → r.takes ≡ name_of x ∷ [] → taken log (entry_of ev r) ≡ x.item ∷ []
     unfolding taken
-    took r takes =
-        ap (λ b. cond (steps_router n b) (flat_map (item_named log) r.takes) []) is
-        ∙ (ap (λ b. cond b (flat_map (item_named log) r.takes) []) (same n)
-        ∙ (ap (flat_map (item_named log)) takes ∙ (ap (λ l. l ++ []) (item_named-first log (queue.Router n) x rest first))))
-      where
-        same : (n : ℕ) → (n == n) ≡ true
-        same n = grind (arith, nat_tests)
+    took r takes = ap (flat_map (item_named log)) takes ∙ ap (λ l. l ++ []) (item_named-first log (queue.Router n) x rest first)
 
     -- the router's channels and routes then
-    subscribers_then : (i : Item) → x.item ≡ i → (r : Row) → r.takes ≡ name_of x ∷ [] → subscribers (log ++ entry_of ev r ∷ []) n ≡ subscribers log n ++ subscriber_of i
-    subscribers_then i item_is r takes =
-        subscribers-append log (entry_of ev r) n
-        ∙ (ap (λ l. subscribers log n ++ flat_map subscriber_of l) (took r takes) ∙ (ap (λ l. subscribers log n ++ l) (append-nil (subscriber_of x.item)) ∙ ap (λ j. subscribers log n ++ subscriber_of j) item_is))
+    abbrev wanted : Item → List ℕ
+    wanted i = flat_map (wants_lists n) (routed_tells n i)
+
+    subscribers_then : (i : Item) → x.item ≡ i → (r : Row) → r.takes ≡ name_of x ∷ [] → subscribers (log ++ entry_of ev r ∷ []) n ≡ subscribers log n ++ wanted i
+    subscribers_then i item_is r takes = subscribers-routed log (entry_of ev r) n is x.item (took r takes) ∙ ap (λ j. subscribers log n ++ wanted j) item_is
 
     routes_then : (i : Item) → x.item ≡ i → (r : Row) → r.takes ≡ name_of x ∷ [] → routes (log ++ entry_of ev r ∷ []) n ≡ with_route (routes log n) i
-    routes_then i item_is r takes = routes-append log (entry_of ev r) n ∙ (ap (routes_after (routes log n)) (took r takes) ∙ ap (with_route (routes log n)) item_is)
+    routes_then i item_is r takes = routes-routed log (entry_of ev r) n is x.item (took r takes) ∙ ap (with_route (routes log n)) item_is
 
     -- neither changes, and no list is put
-    unchanged : (i : Item) → x.item ≡ i → (r : Row) → r.takes ≡ name_of x ∷ [] → flat_map (list_put n c) r.puts ≡ [] → subscriber_of i ≡ [] → with_route (routes log n) i ≡ routes log n → IsCurrent (log ++ entry_of ev r ∷ [])
+    unchanged : (i : Item) → x.item ≡ i → (r : Row) → r.takes ≡ name_of x ∷ [] → flat_map (list_put n c) r.puts ≡ [] → wanted i ≡ [] → with_route (routes log n) i ≡ routes log n → IsCurrent (log ++ entry_of ev r ∷ [])
     unchanged i item_is r takes none no_channel no_route =
         peers_told-kept log (entry_of ev r) n c none
         ∙ (current
@@ -140,7 +137,7 @@ module _ (n c : ℕ) where
         ∙ (ap (λ l. cond (hears (d ∷ [])) keys l) current
         ∙ (by (hears (subscribers log n)) (d == c) keys
         ∙ (ap (λ b. cond b keys []) (sym (list_any-last (λ k. k == c) (subscribers log n) d))
-        ∙ (ap (λ cs. cond (hears cs) keys []) (sym (subscribers_then (item.Subscribe d) item_is (route_row configs log n (name_of x) (item.Subscribe d) left) refl))
+        ∙ (ap (λ cs. cond (hears cs) keys []) (sym (subscribers_then (item.Subscribe d) item_is (route_row configs log n (name_of x) (item.Subscribe d) left) refl ∙ ap (λ l. subscribers log n ++ l) (wants_lists-item n d)))
         ∙ ap (λ rs. cond (hears (subscribers (log ++ after (item.Subscribe d) ∷ []) n)) (keys_in rs) []) (sym (routes_then (item.Subscribe d) item_is (route_row configs log n (name_of x) (item.Subscribe d) left) refl)))))))
       where
         by : (heard one : Bool) (keys : List Key) → cond (one || false) keys (cond heard keys []) ≡ cond (heard || one) keys []
@@ -150,7 +147,7 @@ module _ (n c : ℕ) where
         by false false keys = refl
 
     -- the routes change, and each subscriber is told of them
-    rerouted : (i : Item) → x.item ≡ i → (after i).takes ≡ name_of x ∷ [] → subscriber_of i ≡ []
+    rerouted : (i : Item) → x.item ≡ i → (after i).takes ≡ name_of x ∷ [] → wanted i ≡ []
         → flat_map (list_put n c) (after i).puts ≡ flat_map (list_put n c) (map (peers_put n (keys_in (with_route (routes log n) i))) (subscribers log n))
         → IsCurrent (log ++ after i ∷ [])
     rerouted i item_is takes no_channel told =
@@ -179,7 +176,11 @@ module _ (n c : ℕ) where
 
     stepped : (i : Item) → x.item ≡ i → IsCurrent (log ++ after i ∷ [])
     stepped (item.Subscribe d) item_is = subscribed d item_is
-    stepped (item.Ready conn key) item_is = rerouted (item.Ready conn key) item_is refl refl refl
+    stepped (item.Ready conn key) item_is = rerouted (item.Ready conn key) item_is refl refl (unlisted (is_ended log n conn) (map (peers_put n (keys_in (with_route (routes log n) (item.Ready conn key)))) (subscribers log n)))
+      where
+        unlisted : (b : Bool) (puts : List (Queue × Item)) → flat_map (list_put n c) (answer_puts b n conn ++ puts) ≡ flat_map (list_put n c) puts
+        unlisted true puts = refl
+        unlisted false puts = refl
     stepped (item.Release key) item_is = rerouted (item.Release key) item_is refl refl refl
     stepped (item.Content d frame priority send to) item_is =
         unchanged (item.Content d frame priority send to) item_is (route_row configs log n (name_of x) (item.Content d frame priority send to) left) refl (contents d frame priority send to) refl refl
@@ -190,39 +191,41 @@ module _ (n c : ℕ) where
   module _ (configs : List Config) (log : List Entry) (ev : Event) (current : IsCurrent log) where
     oldest : ev.act ≡ act.Router n → (xs : List Envelope) → line log (queue.Router n) ≡ xs → IsCurrent (log ++ entry_of ev (route_oldest configs log n xs) ∷ [])
     unfolding taken
-    oldest is [] none = kept log (entry_of ev (only reply.Idle)) refl (either (steps_router n ev.act)) current
-      where
-        either : (b : Bool) → cond {A = List Item} b [] [] ≡ []
-        either true = refl
-        either false = refl
+    oldest is [] none = kept log (entry_of ev (only reply.Idle)) refl (router_untaken log (entry_of ev (only reply.Idle)) n refl) current
     oldest is (x ∷ rest) first = stepped configs log ev is x rest first current x.item refl
 
     router_steps : ev.act ≡ act.Router n → (b : Bool) → is_up log n ≡ b → IsCurrent (log ++ entry_of ev (cond b (route_oldest configs log n (line log (queue.Router n))) (only reply.Gone)) ∷ [])
     unfolding taken
     router_steps is true up = oldest is (line log (queue.Router n)) refl
-    router_steps is false up = kept log (entry_of ev (only reply.Gone)) refl (either (steps_router n ev.act)) current
-      where
-        either : (b : Bool) → cond {A = List Item} b [] [] ≡ []
-        either true = refl
-        either false = refl
+    router_steps is false up = kept log (entry_of ev (only reply.Gone)) refl (router_untaken log (entry_of ev (only reply.Gone)) n refl) current
 
-    by_act : (b : Bool) → steps_router n ev.act ≡ b → IsCurrent (log ++ effect configs log ev ∷ [])
+    -- an entry that writes no list there, and tells nothing of the router
+    aside : writes configs log ev.act (queue.Peers n c) ≡ false → TellsNoRouter log (effect configs log ev) n → IsCurrent (log ++ effect configs log ev ∷ [])
     unfolding effect
-    by_act false other =
+    aside none quiet =
         let shape = row_shape configs log ev.at ev.seed ev.act in
-        kept log (effect configs log ev) (lists_none (writes configs log ev.act) (row configs log ev.at ev.seed ev.act).puts (writes_none configs log ev.act other) shape.reach.puts)
-        (ap (λ t. cond t (taken log (effect configs log ev)) []) other) current
-    by_act true own = of_router (steps_is ev.act own)
-      where
-        steps_is : (a : Act) → steps_router n a ≡ true → a ≡ act.Router n
-        steps_is (act.Router m) h = ap act.Router (eqb-true m n h)
-        steps_is _ h = absurd (cc)
+        kept log (effect configs log ev) (lists_none (writes configs log ev.act) (row configs log ev.at ev.seed ev.act).puts none shape.reach.puts) quiet current
 
+    by_act : IsCurrent (log ++ effect configs log ev ∷ [])
+    unfolding effect
+    by_act = by ev.act refl
+      where
         of_row : ev.act ≡ act.Router n → IsCurrent (log ++ entry_of ev (row configs log ev.at ev.seed (act.Router n)) ∷ [])
         of_row is = subst (λ (r : Row). IsCurrent (log ++ entry_of ev r ∷ [])) (sym (row-router configs log ev.at ev.seed n)) (router_steps is (is_up log n) refl)
 
         of_router : ev.act ≡ act.Router n → IsCurrent (log ++ entry_of ev (row configs log ev.at ev.seed ev.act) ∷ [])
         of_router is = subst (λ (a : Act). IsCurrent (log ++ entry_of ev (row configs log ev.at ev.seed a) ∷ [])) (sym is) (of_row is)
+
+        by_node : (m : ℕ) → ev.act ≡ act.Router m → (b : Bool) → (m == n) ≡ b → IsCurrent (log ++ effect configs log ev ∷ [])
+        by_node m is true here = of_router (is ∙ ap act.Router (eqb-true m n here))
+        by_node m is false there =
+            aside (ap (λ a. writes configs log a (queue.Peers n c)) is ∙ grind (arith, nat_tests)) (router_elsewhere log (effect configs log ev) n m is there)
+
+        by : (a : Act) → ev.act ≡ a → IsCurrent (log ++ effect configs log ev ∷ [])
+        by (act.Router m) is = by_node m is (m == n) refl
+        by a is =
+            aside (ap (λ b. writes configs log b (queue.Peers n c)) is ∙ writes_none configs log a refl)
+            (router_apart log (effect configs log ev) n (ap (λ b. are_apart (kinds_of b) route_kinds) is))
 
 current_first : (n c : ℕ) → IsCurrent n c []
 unfolding subscribers told state_from
@@ -230,4 +233,4 @@ current_first n c = peers_told-none n c
 
 pub lists_are_current : (configs : List Config) (script : List Event) (log : List Entry) → IsLawful configs script log → ListsAreCurrent log
 lists_are_current configs script log lawful n c =
-    at_end configs (IsCurrent n c) (current_first n c) (λ before ev current. by_act n c configs before ev current (steps_router n ev.act) refl) script log lawful
+    at_end configs (IsCurrent n c) (current_first n c) (λ before ev current. by_act n c configs before ev current) script log lawful

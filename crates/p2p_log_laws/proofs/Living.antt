@@ -21,7 +21,7 @@ use Rattle.p2p_log.specs.Lines.{name_of, live, line}
 use Rattle.p2p_log_rules.specs.declared.row.Half.{Half}
 use Rattle.p2p_log_rules.specs.declared.row.Row.{Row}
 use Rattle.p2p_log_rules.specs.Closing.{is_closed, refused_by}
-use Rattle.p2p_log_rules.specs.Connections.{steps_sender, steps_receiver, is_done, is_end, is_answer, begins, answers_by, ends_connection, live_half, is_begun, is_running, is_ended}
+use Rattle.p2p_log_rules.specs.Connections.{is_done, is_end, is_answer, begins, runs, ends_connection, live_half, is_begun, has_run, is_running, is_ended}
 use Rattle.p2p_log_rules.specs.Dropping.{other_side, is_dropped}
 use Rattle.p2p_log_rules.specs.Effect
 use Rattle.p2p_log_rules.specs.Effect.{row, effect, limit_at}
@@ -32,7 +32,7 @@ use Rattle.p2p_log_rules.specs.Lawful.{IsLawful}
 use Rattle.p2p_log_rules.specs.Metering.{pings, messages, may_pass}
 use Rattle.p2p_log_rules.specs.Pings.{ping_is_due}
 use Rattle.p2p_log_rules.specs.Spawning.{Spawned, connections_of}
-use Rattle.p2p_log_rules.proofs.Connections.{is_begun-append, is_begun-none, is_running-append, is_running-none, is_ended-append, is_ended-none, half_parts, is_live}
+use Rattle.p2p_log_rules.proofs.Connections.{half_act, end_of, begin_of, runs_is, is_begun-append, is_begun-none, has_run-append, has_run-none, is_ended-append, is_ended-none, half_parts, is_live}
 use Rattle.p2p_log_rules.proofs.Moves.{one_taken, first_has}
 use Rattle.p2p_log_rules.proofs.Spawning.{connections_of-late, connections_of-next}
 use Rattle.p2p_log_laws.specs.Endings.{IsNoFrame, IsOnNoChannel, HasReason}
@@ -78,7 +78,7 @@ module _ (configs : List Config) (log : List Entry) (n conn at : ℕ) (fitting :
     told_kills x xs first =
         is_kill x.item (subst (λ q. fits q x.item ≡ true) (one_taken log (queue.Control n conn) x xs first) (first_has StandsFit log (queue.Control n conn) x xs fitting first))
 
-    told_ends : (xs : List Envelope) → line log (queue.Control n conn) ≡ xs → (room : Bool) (r : Row) → Ends r → Ends (Effect.told_row log n conn half xs room r)
+    told_ends : (xs : List Envelope) → line log (queue.Control n conn) ≡ xs → (room : Bool) (r : Row) → Ends r → Ends (Effect.told_to_end_row log n conn half xs room r)
     told_ends (x ∷ xs) is true r rest h =
         record {
           half = half;
@@ -222,33 +222,18 @@ module _ (configs : List Config) (log : List Entry) (n conn at : ℕ) (fitting :
 
 -- ---- all acts
 
--- an entry that ends a connection is a step of one of its halves
-named_here : (m n e conn : ℕ) → ((m == n) && (e == conn)) ≡ true → (m ≡ n) × (e ≡ conn)
-named_here m n e conn h = let both = and_parts (m == n) (e == conn) h in (eqb-true m n both.0, eqb-true e conn both.1)
-
-either_true : (b : Bool) → (b || false) ≡ b
-either_true true = refl
-either_true false = refl
-
 -- the row of an act that ends a connection
-pub end_row_is : (configs : List Config) (log : List Entry) (ev : Event) (n conn : ℕ) → Each StandsFit (live log) → ends_connection n conn (effect configs log ev) ≡ true
+abbrev EndsBy : List Config → List Entry → ℕ → ℕ → ℕ → ℕ → Act → Type 0
+EndsBy configs log at seed n conn a = is_end (row configs log at seed a).reply ≡ true → IsEndRow configs log n conn (row configs log at seed a)
+
+pub end_row_is : (configs : List Config) (log : List Entry) (ev : Event) (n conn : ℕ) → Each StandsFit (live log) → ends_connection n conn log (effect configs log ev) ≡ true
     → IsEndRow configs log n conn (row configs log ev.at ev.seed ev.act)
 unfolding effect row
-end_row_is configs log ev n conn fitting = by ev.act
+end_row_is configs log ev n conn fitting ends = let end = end_of log (effect configs log ev) n conn ends in by end.sends end.acts end.says
   where
-    moved : (m e : ℕ) (f : ℕ → ℕ → Row) → Ends configs log m e ev.at fitting (f m e) → ((m == n) && (e == conn)) ≡ true → is_end (f m e).reply ≡ true → IsEndRow configs log n conn (f m e)
-    moved m e f ends here h =
-        let same = named_here m n e conn here in
-        subst (λ k. IsEndRow configs log k conn (f m e)) same.0 (subst (λ c. IsEndRow configs log m c (f m e)) same.1 (ends h))
-
-    by : (a : Act) → ((steps_sender n conn a || steps_receiver n conn a) && is_end (row configs log ev.at ev.seed a).reply) ≡ true → IsEndRow configs log n conn (row configs log ev.at ev.seed a)
-    by (act.SendStep c m) h =
-        let both = and_parts (steps_sender n conn (act.SendStep c m) || false) _ h in
-        moved m c (λ k e. Effect.send_step_row configs log e k ev.at) (send_ends configs log m c ev.at fitting) (sym (either_true ((m == n) && (c == conn))) ∙ both.0) both.1
-    by (act.RecvStep c m) h =
-        let both = and_parts (false || steps_receiver n conn (act.RecvStep c m)) _ h in
-        moved m c (λ k e. Effect.recv_step_row configs log e k ev.at) (receive_step_ends configs log m c ev.at fitting) both.0 both.1
-    by _ h = absurd (false≢true h)
+    by : (sends : Bool) → ev.act ≡ half_act sends conn n → EndsBy configs log ev.at ev.seed n conn ev.act
+    by true acts = subst (EndsBy configs log ev.at ev.seed n conn) (sym acts) (send_ends configs log n conn ev.at fitting)
+    by false acts = subst (EndsBy configs log ev.at ev.seed n conn) (sym acts) (receive_step_ends configs log n conn ev.at fitting)
 
 -- ---- what begins, runs or ends was made
 
@@ -279,23 +264,14 @@ module _ (configs : List Config) (log : List Entry) (ev : Event) (n conn : ℕ) 
   abbrev r : Row
   r = row configs log ev.at ev.seed ev.act
 
-  pub steps_live : (steps_sender n conn ev.act || steps_receiver n conn ev.act) ≡ true → IsOfLive log n conn r
+  pub steps_live : (sends : Bool) → ev.act ≡ half_act sends conn n → IsOfLive log n conn r
   unfolding row
-  steps_live = by ev.act
-    where
-      moved : (m e : ℕ) (f : ℕ → ℕ → Row) → IsOfLive log m e (f m e) → ((m == n) && (e == conn)) ≡ true → IsOfLive log n conn (f m e)
-      moved m e f is here =
-          let same = named_here m n e conn here in
-          subst (λ k. IsOfLive log k conn (f m e)) same.0 (subst (λ c. IsOfLive log m c (f m e)) same.1 is)
-
-      by : (a : Act) → (steps_sender n conn a || steps_receiver n conn a) ≡ true → IsOfLive log n conn (row configs log ev.at ev.seed a)
-      by (act.SendStep c m) h = moved m c (λ k e. Effect.send_step_row configs log e k ev.at) (sends_live configs log m c ev.at) (sym (either_true ((m == n) && (c == conn))) ∙ h)
-      by (act.RecvStep c m) h = moved m c (λ k e. Effect.recv_step_row configs log e k ev.at) (receives_live configs log m c ev.at) h
-      by _ h = absurd (false≢true h)
+  steps_live true acts = subst (λ a. IsOfLive log n conn (row configs log ev.at ev.seed a)) (sym acts) (sends_live configs log n conn ev.at)
+  steps_live false acts = subst (λ a. IsOfLive log n conn (row configs log ev.at ev.seed a)) (sym acts) (receives_live configs log n conn ev.at)
 
   -- a step that does something is of a connection that was made
-  steps_made : (steps_sender n conn ev.act || steps_receiver n conn ev.act) ≡ true → (r ≡ Effect.only reply.Gone → ⊥) → IsMade log n conn
-  steps_made steps does = elim (steps_live steps) [
+  steps_made : (sends : Bool) → ev.act ≡ half_act sends conn n → (r ≡ Effect.only reply.Gone → ⊥) → IsMade log n conn
+  steps_made sends acts does = elim (steps_live sends acts) [
     | inl gone ↦ absurd (does gone)
     | inr live ↦ let parts = half_parts log n conn live.0 (is_live log n conn live.0 live.1).at in (parts.connection, parts.made)
   ]
@@ -309,31 +285,16 @@ module _ (configs : List Config) (log : List Entry) (ev : Event) (n conn : ℕ) 
   next_made true new was now h = still_made (was refl)
   next_made false new was now h = still_made (now h)
 
-  or_first : (b c : Bool) → b ≡ true → (b || c) ≡ true
-  or_first true c h = refl
-  or_first false c h = absurd (false≢true h)
-
-  ends_made : ends_connection n conn (effect configs log ev) ≡ true → IsMade log n conn
+  ends_made : ends_connection n conn log (effect configs log ev) ≡ true → IsMade log n conn
   unfolding effect
-  ends_made h =
-      let both = and_parts (steps_sender n conn ev.act || steps_receiver n conn ev.act) (is_end r.reply) h in
-      steps_made both.0 (λ gone. false≢true (ap (λ (k : Row). is_end k.reply) (sym gone) ∙ both.1))
+  ends_made h = let end = end_of log (effect configs log ev) n conn h in steps_made end.sends end.acts (λ gone. false≢true (ap (λ (k : Row). is_end k.reply) (sym gone) ∙ end.says))
 
-  begins_made : begins n conn (effect configs log ev) ≡ true → IsMade log n conn
+  begins_made : begins n conn log (effect configs log ev) ≡ true → IsMade log n conn
   unfolding effect
-  begins_made h =
-      let both = and_parts (steps_sender n conn ev.act) (is_done r.reply) h in
-      steps_made (or_first (steps_sender n conn ev.act) (steps_receiver n conn ev.act) both.0) (λ gone. false≢true (ap (λ (k : Row). is_done k.reply) (sym gone) ∙ both.1))
+  begins_made h = let begin = begin_of log (effect configs log ev) n conn h in steps_made true begin.0 (λ gone. false≢true (ap (λ (k : Row). is_done k.reply) (sym gone) ∙ begin.1))
 
-  answers_made : list_any (λ b. b) (answers_by n conn log (effect configs log ev)) ≡ true → IsMade log n conn
-  unfolding effect taken
-  answers_made = by (steps_sender n conn ev.act) refl
-    where
-      by : (b : Bool) → steps_sender n conn ev.act ≡ b → list_any (λ c. c) (cond b (map is_answer (taken log (Effect.entry_of ev r))) []) ≡ true → IsMade log n conn
-      by false steps h = absurd (false≢true h)
-      by true steps h =
-          steps_made (or_first (steps_sender n conn ev.act) (steps_receiver n conn ev.act) steps)
-          (λ gone. false≢true (ap (λ (k : Row). list_any (λ c. c) (map is_answer (taken log (Effect.entry_of ev k)))) (sym gone) ∙ h))
+  runs_made : runs n conn log (effect configs log ev) ≡ true → IsMade log n conn
+  runs_made h = begins_made (and_parts (begins n conn log (effect configs log ev)) (list_any is_answer (taken log (effect configs log ev))) (sym (runs_is log (effect configs log ev) n conn) ∙ h)).0
 
 module _ (configs : List Config) (script : List Event) (log : List Entry) (lawful : IsLawful configs script log) where
   abbrev Makes : (List Entry → ℕ → ℕ → Bool) → List Entry → Type 0
@@ -345,15 +306,15 @@ module _ (configs : List Config) (script : List Event) (log : List Entry) (lawfu
   none_begun : Makes is_begun []
   none_begun n conn h = absurd (false≢true (sym (is_begun-none n conn) ∙ h))
 
-  none_running : Makes is_running []
-  none_running n conn h = absurd (false≢true (sym (is_running-none n conn) ∙ h))
+  none_run : Makes has_run []
+  none_run n conn h = absurd (false≢true (sym (has_run-none n conn) ∙ h))
 
   pub ended_made : (n conn : ℕ) → is_ended log n conn ≡ true → IsMade log n conn
   ended_made = at_end configs (Makes is_ended) none_ended more script log lawful
     where
       more : (before : List Entry) (ev : Event) → Makes is_ended before → Makes is_ended (before ++ effect configs before ev ∷ [])
       more before ev old n conn h =
-          next_made configs before ev n conn (is_ended before n conn) (ends_connection n conn (effect configs before ev)) (old n conn) (ends_made configs before ev n conn)
+          next_made configs before ev n conn (is_ended before n conn) (ends_connection n conn before (effect configs before ev)) (old n conn) (ends_made configs before ev n conn)
           (sym (is_ended-append before (effect configs before ev) n conn) ∙ h)
 
   pub begun_made : (n conn : ℕ) → is_begun log n conn ≡ true → IsMade log n conn
@@ -361,16 +322,16 @@ module _ (configs : List Config) (script : List Event) (log : List Entry) (lawfu
     where
       more : (before : List Entry) (ev : Event) → Makes is_begun before → Makes is_begun (before ++ effect configs before ev ∷ [])
       more before ev old n conn h =
-          next_made configs before ev n conn (is_begun before n conn) (begins n conn (effect configs before ev)) (old n conn) (begins_made configs before ev n conn)
+          next_made configs before ev n conn (is_begun before n conn) (begins n conn before (effect configs before ev)) (old n conn) (begins_made configs before ev n conn)
           (sym (is_begun-append before (effect configs before ev) n conn) ∙ h)
 
-  pub running_made : (n conn : ℕ) → is_running log n conn ≡ true → IsMade log n conn
-  running_made = at_end configs (Makes is_running) none_running more script log lawful
+  pub run_made : (n conn : ℕ) → has_run log n conn ≡ true → IsMade log n conn
+  run_made = at_end configs (Makes has_run) none_run more script log lawful
     where
-      more : (before : List Entry) (ev : Event) → Makes is_running before → Makes is_running (before ++ effect configs before ev ∷ [])
+      more : (before : List Entry) (ev : Event) → Makes has_run before → Makes has_run (before ++ effect configs before ev ∷ [])
       more before ev old n conn h =
-          next_made configs before ev n conn (is_running before n conn) (list_any (λ b. b) (answers_by n conn before (effect configs before ev))) (old n conn) (answers_made configs before ev n conn)
-          (sym (is_running-append before (effect configs before ev) n conn) ∙ h)
+          next_made configs before ev n conn (has_run before n conn) (runs n conn before (effect configs before ev)) (old n conn) (runs_made configs before ev n conn)
+          (sym (has_run-append before (effect configs before ev) n conn) ∙ h)
 
   -- none that an entry not made yet names
   unmade_late : (n conn : ℕ) → length log ≤ conn → IsMade log n conn → ⊥
@@ -397,4 +358,4 @@ pub ended_longer : (log more : List Entry) (n conn : ℕ) → is_ended log n con
 ended_longer log [] n conn h = ap (λ l. is_ended l n conn) (append-nil log) ∙ h
 ended_longer log (e ∷ es) n conn h =
     ap (λ l. is_ended l n conn) (sym (append_assoc log (e ∷ []) es))
-    ∙ ended_longer (log ++ e ∷ []) es n conn (is_ended-append log e n conn ∙ ap (λ b. b || ends_connection n conn e) h)
+    ∙ ended_longer (log ++ e ∷ []) es n conn (is_ended-append log e n conn ∙ ap (λ b. b || ends_connection n conn log e) h)

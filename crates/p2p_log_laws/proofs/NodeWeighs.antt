@@ -1,8 +1,9 @@
 -- What each act does to the grants of a key at a node: who holds them before and after it, and what it makes of the calls.
-use Rattle.std.proofs.Common.{◌≡◌, ℕ, Bool, true, false, cond, List, [], ◌∷◌, map, take, length, Option, Some, None, refl, ap, sym, subst, ◌∙◌, arith, eq-eqb, eqb-true}
+use Rattle.std.proofs.Common.{◌≡◌, ℕ, Bool, true, false, cond, List, [], ◌∷◌, ◌++◌, map, take, length, Option, Some, None, refl, ap, sym, subst, ◌∙◌, arith, eq-eqb, eqb-true}
 use Rattle.std.specs.Prelude.{◌==◌, ◌&&◌, ◌||◌, flat_map, nat_lt}
 use Rattle.std.specs.List.{AllByRecursion as Each, list_any}
 use Rattle.std.specs.Option.{option_map}
+use Rattle.p2p_log_rules.proofs.Bools.{or_false}
 use Rattle.p2p_base.specs.declared.key.Key.{Key}
 use Rattle.p2p_tracker_calls.specs.declared.call.Call.{Call}
 use Rattle.p2p_tracker_calls.specs.Grants.{is_held}
@@ -25,9 +26,12 @@ use Rattle.p2p_log.specs.Lines.{ended_item, live, line}
 use Rattle.p2p_log.proofs.Each.{Each-weaker}
 use Rattle.p2p_log_rules.specs.declared.row.Row.{Row}
 use Rattle.p2p_log_rules.specs.Attempting.{Attempt, DialRules, dial_rules_at, attempts_of, attempt_turn, attempt_by, attempt_row, resolve_row, refuse_row, connect_row}
-use Rattle.p2p_log_rules.proofs.Attempts.{begun_of, told_addresses, told_answer, told_link, and_then, stepped_attempt, attempts_by, acted_attempts, tries, Agrees, HeedsAttempt, attempts_kept, attempts_acted}
-use Rattle.p2p_log_rules.proofs.Trying.{turn_agrees}
-use Rattle.std.proofs.lemmas.Option.{same_Some}
+use Rattle.p2p_log_rules.proofs.Connections.{EndsNone, ends_untold}
+use Rattle.p2p_log_rules.specs.Tellings.{Telling, last_or}
+use Rattle.p2p_log_rules.specs.Told.{asks_list, took_tells, told}
+use Rattle.p2p_log_rules.proofs.Attempts.{attempt_told, attempts_by, attempts_of-append}
+use Rattle.p2p_log_rules.proofs.AttemptTellings.{attempts_of-act, tries, none_tried, attempts_of-others, attempts_of-kept, attempts_of-new, attempts_of-old, attempts_of-stepped}
+use Rattle.p2p_log_rules.proofs.Families.{kinds_of, are_apart}
 use Rattle.p2p_log_rules.specs.Dialing.{dialer_row}
 use Rattle.p2p_log_rules.specs.declared.row.Opening.{Opening}
 use Rattle.p2p_log_rules.specs.declared.row.ListeningEnd.{ListeningEnd}
@@ -35,11 +39,11 @@ use Rattle.p2p_log_rules.specs.Handshakes.{is_handshaking, is_finished, peer_at}
 use Rattle.p2p_log_rules.specs.Handshaking.{handshake_deadline, is_due, handshake_turn, handshake_row}
 use Rattle.p2p_log_rules.specs.Links.{openings_of, listening_ends_of, finished_row, verdict, finish_by, finish_row}
 use Rattle.p2p_log_rules.specs.Listening.{listener_row}
-use Rattle.p2p_log_rules.specs.Connections.{ends_connection, half_at, is_ended}
+use Rattle.p2p_log_rules.specs.Connections.{half_at, is_ended}
 use Rattle.p2p_log_rules.specs.Dropping.{dialing_end, arriving_end, attempt_step_row, handshake_step_row}
-use Rattle.p2p_log_rules.specs.Puts.{gave_up, broke_off, turns_away}
+use Rattle.p2p_log_rules.specs.Puts.{gave_up, ends_attempt, broke_off, turns_away}
 use Rattle.p2p_log_rules.specs.Effect.{entry_of, row, send_step_row, recv_step_row}
-use Rattle.p2p_log_rules.specs.Facts.{taken, with_named, with_begun}
+use Rattle.p2p_log_rules.specs.Facts.{item_named, taken}
 use Rattle.p2p_log_rules.specs.Moves.{Moves}
 use Rattle.p2p_log_rules.specs.Rows.{only, is_spawner_full}
 use Rattle.p2p_log_rules.specs.Spawning.{steps_spawner, spawned_of, spawner_row}
@@ -51,11 +55,11 @@ use Rattle.p2p_log_laws.proofs.Reaching.{in_connection, reads, ends_in}
 use Rattle.p2p_log_laws.specs.Grants.{one, Granting, held_after}
 use Rattle.p2p_log_laws.specs.NodeGrants.{releases_key, is_attempt_of, is_connection_of, puts_grant, granting}
 use Rattle.p2p_log_laws.proofs.AttemptGrants.{Ends, attempt_ends}
-use Rattle.p2p_log_laws.proofs.AttemptHolds.{told_kept, none_kept, addresses_kept, answer_kept, link_kept, others_kept, holds_kept, holds_begun, holds_changed}
+use Rattle.p2p_log_laws.proofs.AttemptHolds.{took_holds, bounded_holds, holds_kept, holds_begun, holds_changed}
 use Rattle.p2p_log_laws.proofs.ConnectionHolds.{connections_kept, connections_made}
 use Rattle.p2p_log_laws.proofs.AttemptShape.{attempt_shape}
 use Rattle.p2p_log_laws.proofs.ConnShapes.{send_step_shape}
-use Rattle.p2p_log_laws.proofs.DialerGrants.{Hand, dialer_hands}
+use Rattle.p2p_log_laws.proofs.DialerGrants.{begins_held, Hand, dialer_hands}
 use Rattle.p2p_log_laws.proofs.FinishShape.{finish_plain}
 use Rattle.p2p_log_laws.proofs.Fitting.{StandsFit}
 use Rattle.p2p_log_laws.proofs.HandshakeGrants.{GrantsFirst, Hands, nothing, turn_hands}
@@ -81,6 +85,10 @@ told_aside (Some (act.Ask (ask.PeerSet index) m)) e n = record { dialer = refl; 
 told_aside (Some (act.Ask ask.Subscribe m)) e n = record { dialer = refl; handshakes = λ h. refl; spawner = refl; tracker = refl }
 told_aside (Some (act.Ask ask.Blocked m)) e n = record { dialer = refl; handshakes = λ h. refl; spawner = refl; tracker = refl }
 told_aside _ e n = record { dialer = refl; handshakes = λ h. refl; spawner = refl; tracker = refl }
+
+took_nothing : (log : List Entry) (e : Entry) → e.takes ≡ [] → taken log e ≡ []
+unfolding taken
+took_nothing log e takes = ap (flat_map (item_named log)) takes
 
 module _ (configs : List Config) (n : ℕ) (key : Key) (log : List Entry) where
   abbrev g : Granting
@@ -108,18 +116,15 @@ module _ (configs : List Config) (n : ℕ) (key : Key) (log : List Entry) where
         (Each-weaker (λ x. ends_in configs log a x.queue ≡ true) (λ x. IsAside n x.queue)
         (λ x k. away_aside n (in_connection (half_at log m conn) m conn) (connection_away n (half_at log m conn) m conn) x.queue (with x.queue k)) shape.moves.ended shape.reach.ended)
 
-    or_false : (b : Bool) → (b || false) ≡ b
-    or_false true = refl
-    or_false false = refl
-
     -- an act that is not of the node's attempts
     untried : (a : Act) (r : Row) → tries n a ≡ false → (k : ℕ) → is_attempt_of key (attempts_by configs n log (entry_of (event at seed a) r) f k) ≡ is_attempt_of key (f k)
-    untried a r h k = ap (is_attempt_of key) (attempts_kept configs log (entry_of (event at seed a) r) n k (f k) h)
+    untried a r h k =
+        let e : Entry = entry_of (event at seed a) r in
+        ap (is_attempt_of key) (sym (attempts_of-append configs log e n k) ∙ attempts_of-kept configs log e n k h)
 
-    -- what an act makes of them
-    tried : (a : Act) (r : Row) → HeedsAttempt configs n log (entry_of (event at seed a) r) f → (k : ℕ) → attempts_by configs n log (entry_of (event at seed a) r) f k
-        ≡ acted_attempts (dial_rules_at configs n) n (length log) at seed r.reply (taken log (entry_of (event at seed a) r)) r.puts a f k
-    tried a r h k = attempts_acted configs log (entry_of (event at seed a) r) n k f h
+    -- one that neither begins nor ends any
+    only_told : (a : Act) (r : Row) → are_apart (kinds_of a) (7 ∷ 13 ∷ []) ≡ true → (k : ℕ) → is_attempt_of key (attempts_by configs n log (entry_of (event at seed a) r) f k) ≡ is_attempt_of key (f k)
+    only_told a r apart k = bounded_holds (dial_rules_at configs n) n k key log (entry_of (event at seed a) r) (f k) apart
 
     sender_weighs : (conn m : ℕ) → Weighs (event at seed (act.SendStep conn m)) (send_step_row configs log conn m at)
     sender_weighs conn m =
@@ -148,14 +153,14 @@ module _ (configs : List Config) (n : ℕ) (key : Key) (log : List Entry) where
 
     -- ---- questions
 
-    asks : (a : Act) (r : Row) → steps_tracker n a ≡ false → steps_spawner n a ≡ false → ((k : ℕ) → ends_connection n k (entry_of (event at seed a) r) ≡ false) → r.takes ≡ [] → r.ends ≡ [] → Each (Plain n key) r.puts
+    asks : (a : Act) (r : Row) → steps_tracker n a ≡ false → steps_spawner n a ≡ false → EndsNone a → r.takes ≡ [] → r.ends ≡ [] → Each (Plain n key) r.puts
         → ((k : ℕ) → is_attempt_of key (attempts_by configs n log (entry_of (event at seed a) r) f k) ≡ is_attempt_of key (f k)) → Weighs (event at seed a) r
-    asks a r still makes lives takes ends puts kept =
-        weighs.plain_weighs configs n key log (event at seed a) r still makes lives (no_moves log r takes (ap (flat_map ended_item) ends)) (record { taken = tt; ended = tt; puts = puts }) kept
+    asks a r still makes none takes ends puts kept =
+        weighs.plain_weighs configs n key log (event at seed a) r still makes (λ k. ends_untold log (entry_of (event at seed a) r) n k a refl none) (no_moves log r takes (ap (flat_map ended_item) ends)) (record { taken = tt; ended = tt; puts = puts }) kept
 
     asked_weighs : (what : Asked) (m : ℕ) → Weighs (event at seed (act.Ask what m)) (rows.asked_row configs log m)
     asked_weighs what m =
-        asks (act.Ask what m) (rows.asked_row configs log m) refl refl (λ k. refl) refl refl (plain_item n key (queue.Tracker m) (item.Call (length log)) refl refl, tt) (untried (act.Ask what m) (rows.asked_row configs log m) refl)
+        asks (act.Ask what m) (rows.asked_row configs log m) refl refl refl refl refl (plain_item n key (queue.Tracker m) (item.Call (length log)) refl refl, tt) (untried (act.Ask what m) (rows.asked_row configs log m) refl)
 
     ask_weighs : (what : Asked) (m : ℕ) → Weighs (event at seed (act.Ask what m)) (rows.ask_row configs log m what)
     ask_weighs (ask.Track index peers) m = by_size (nat_lt (rows.most_peers_at configs m) (rows.size_at configs m peers))
@@ -163,7 +168,7 @@ module _ (configs : List Config) (n : ℕ) (key : Key) (log : List Entry) where
         by_size : (b : Bool) → Weighs (event at seed (act.Ask (ask.Track index peers) m))
             (cond b (only (reply.PeerSetTooLarge (rows.size_at configs m peers) (rows.most_peers_at configs m))) (rows.asked_row configs log m))
         by_size true =
-            asks (act.Ask (ask.Track index peers) m) (only (reply.PeerSetTooLarge (rows.size_at configs m peers) (rows.most_peers_at configs m))) refl refl (λ k. refl) refl refl tt
+            asks (act.Ask (ask.Track index peers) m) (only (reply.PeerSetTooLarge (rows.size_at configs m peers) (rows.most_peers_at configs m))) refl refl refl refl refl tt
             (untried (act.Ask (ask.Track index peers) m) (only (reply.PeerSetTooLarge (rows.size_at configs m peers) (rows.most_peers_at configs m))) refl)
         by_size false = asked_weighs (ask.Track index peers) m
     ask_weighs what m = asked_weighs what m
@@ -184,7 +189,7 @@ module _ (configs : List Config) (n : ℕ) (key : Key) (log : List Entry) where
         let grants : g.grants log e ≡ step.turned.grants = ap (λ b. b && list_any (puts_grant n key) r.puts) here ∙ step.turned.granted in
         let frees : g.frees log e ≡ step.frees = ap (λ b. b && list_any (releases_key key) (taken log e)) here ∙ (ap (list_any (releases_key key)) items ∙ step.freed) in
         let held = holds_kept configs n key log e (untried (act.Tracker n) r refl) in
-        let connected = connections_kept n key log e refl (λ k. refl) in
+        let connected = connections_kept n key log e refl (λ k. ends_untold log e n k (act.Tracker n) refl refl) in
         let granted : one (g.grants log e) ≡ one step.turned.grants = ap one grants in
         let freed : one (g.frees log e) ≡ one step.frees = ap one frees in
         let grants_taken = step.grants_taken in
@@ -214,18 +219,21 @@ module _ (configs : List Config) (n : ℕ) (key : Key) (log : List Entry) where
     dialer_weighs =
         let r : Row = dialer_row configs log n at seed in
         let rules : DialRules = dial_rules_at configs n in
-        let hand : Hand n key log rules.timeout at r = dialer_hands n key configs log rules.timeout at seed in
+        let asked : ℕ = last_or 0 (asks_list n) (told log) in
+        let hand : Hand n key log rules asked at seed r = dialer_hands n key configs log rules asked at seed in
         let m : Moves log r = hand.moves in
         let e : Entry = entry_of (event at seed (act.Dialer n)) r in
         let items : taken log e ≡ map (λ x. x.item) m.taken = taken_items log (event at seed (act.Dialer n)) r m in
-        let begun : Option Attempt = begun_of rules.timeout at (map (λ x. x.item) m.taken) in
-        let held = holds_begun configs n key log e begun
-        (λ k. tried (act.Dialer n) r tt k ∙ ap (λ b. cond b (with_begun (begun_of rules.timeout at (taken log e)) (length log) f k) (f k)) here ∙ ap (λ l. with_begun (begun_of rules.timeout at l) (length log) f k) items) in
+        let begins : is_attempt_of key (attempts_of configs (log ++ e ∷ []) n (length log)) ≡ begins_held n key rules asked (length log) at seed (map (λ x. x.item) m.taken) =
+        ap (is_attempt_of key) (attempts_of-new configs log e n refl) ∙ ap (begins_held n key rules asked (length log) at seed) items
+        in
+        let held = holds_begun configs n key log e (λ k other. attempts_of-old configs log e n n k refl other) in
+        let begun : one (is_attempt_of key (attempts_of configs (log ++ e ∷ []) n (length log))) ≡ one (begins_held n key rules asked (length log) at seed (map (λ x. x.item) m.taken)) = ap one begins in
         let taken_here = hand.begun in
         let ended = no_grants_stand n key m.ended hand.ended in
         let granted = no_grants n key r.puts hand.puts in
         let released = no_releases n key r.puts hand.puts in
-        weighs.moved configs n key log (event at seed (act.Dialer n)) r refl refl (λ k. refl) m (omega (arith, held, taken_here, ended, granted, released)) hand.releases_taken (no_releases_stand n key m.ended hand.ended)
+        weighs.moved configs n key log (event at seed (act.Dialer n)) r refl refl (λ k. ends_untold log (entry_of (event at seed (act.Dialer n)) r) n k (act.Dialer n) refl refl) m (omega (arith, held, begun, taken_here, ended, granted, released)) hand.releases_taken (no_releases_stand n key m.ended hand.ended)
 
     -- ---- an attempt's
 
@@ -233,39 +241,38 @@ module _ (configs : List Config) (n : ℕ) (key : Key) (log : List Entry) where
         → Weighs (event at seed (act.Attempt i n)) (attempt_turn n at seed (is_spawner_full configs log n) (dial_rules_at configs n).private a (line log (queue.Attempt n i)))
     stands_weighs i a stands =
         let rules : DialRules = dial_rules_at configs n in
-        let full : Bool = is_spawner_full configs log n in
-        let r : Row = attempt_turn n at seed full rules.private a (line log (queue.Attempt n i)) in
-        let ends : Ends n key log i rules at seed a r = attempt_ends n key log i rules at seed a full (line log (queue.Attempt n i)) refl in
+        let r : Row = attempt_turn n at seed (is_spawner_full configs log n) rules.private a (line log (queue.Attempt n i)) in
+        let ends : Ends n key log i at seed a r = attempt_ends n key log i at seed a (is_spawner_full configs log n) rules.private (line log (queue.Attempt n i)) refl in
         let m : Moves log r = ends.moves in
         let e : Entry = entry_of (event at seed (act.Attempt i n)) r in
-        let items : taken log e ≡ map (λ x. x.item) m.taken = taken_items log (event at seed (act.Attempt i n)) r m in
-        let heeds : HeedsAttempt configs n log e f = λ node b stood.
-        subst (λ (x : Attempt). Agrees rules n i at seed r.reply (taken log e) r.puts x) (same_Some a b (sym stands ∙ stood)) (turn_agrees configs log i n at seed (event at seed (act.Attempt i n)) full a (line log (queue.Attempt n i)) refl)
+        let took : List Telling = took_tells n i at seed (taken log e) in
+        let held = holds_changed configs n key log e i a stands (λ k other. attempts_of-others configs log e n k (act.Attempt i n) refl (none_tried n k n i at (ap (λ b. b && (k == i)) here ∙ other))) in
+        let left : one (is_attempt_of key (attempts_of configs (log ++ e ∷ []) n i)) ≡ one (cond (ends_attempt r.puts) false (a.key.0 == key.0)) =
+        ap (λ o. one (is_attempt_of key o)) (attempts_of-stepped configs log e n i refl ∙ ap (λ o. cond (ends_attempt r.puts) None (attempt_told rules n i took o)) stands)
+        ∙ ap one (by (ends_attempt r.puts) (attempt_told rules n i took (Some a)) (a.key.0 == key.0) (took_holds rules n i key at seed (taken log e) a))
         in
-        let left : Option Attempt = stepped_attempt rules at seed r.reply (map (λ x. x.item) m.taken) a in
-        let held = holds_changed configs n key log e i a left stands
-        (λ k. tried (act.Attempt i n) r heeds k
-        ∙ (ap (λ b. cond b (with_named i (and_then (stepped_attempt rules at seed r.reply (taken log e)) (f i)) f k) (f k)) here
-        ∙ (ap (λ l. with_named i (and_then (stepped_attempt rules at seed r.reply l) (f i)) f k) items
-        ∙ ap (λ o. with_named i (and_then (stepped_attempt rules at seed r.reply (map (λ x. x.item) m.taken)) o) f k) stands))) in
         let kept = ends.kept in
         let taken_here = no_grants_stand n key m.taken ends.taken in
         let ended = no_grants_stand n key m.ended ends.ended in
-        weighs.moved configs n key log (event at seed (act.Attempt i n)) r refl refl (λ k. refl) m (omega (arith, held, kept, taken_here, ended)) (no_releases_stand n key m.taken ends.taken) (no_releases_stand n key m.ended ends.ended)
+        weighs.moved configs n key log (event at seed (act.Attempt i n)) r refl refl (λ k. ends_untold log (entry_of (event at seed (act.Attempt i n)) r) n k (act.Attempt i n) refl refl) m (omega (arith, held, left, kept, taken_here, ended)) (no_releases_stand n key m.taken ends.taken) (no_releases_stand n key m.ended ends.ended)
+      where
+        by : (b : Bool) (o : Option Attempt) (c : Bool) → is_attempt_of key o ≡ c → is_attempt_of key (cond b None o) ≡ cond b false c
+        by true o c is = refl
+        by false o c is = is
 
     attempt_weighs : (i : ℕ) → Weighs (event at seed (act.Attempt i n)) (attempt_step_row configs log i n at seed)
     attempt_weighs i =
         let r : Row = attempt_row configs log i n at seed in
         weighs.dropped_weighs configs n key log at seed (event at seed (act.Attempt i n)) r (cond (gave_up r.puts) (dialing_end log n i) None) (by_attempt (f i) refl) (attempt_shape configs log i n at seed).moves
       where
-        never : (b : Attempt) → None ≡ Some b → ⊥
-        never b is = cc
-
         by_attempt : (o : Option Attempt) → f i ≡ o → Weighs (event at seed (act.Attempt i n)) (attempt_by o n at seed (is_spawner_full configs log n) (dial_rules_at configs n).private (line log (queue.Attempt n i)))
         by_attempt None none =
-            asks (act.Attempt i n) (only reply.Gone) refl refl (λ k. refl) refl refl tt
-            (λ k. ap (is_attempt_of key) (tried (act.Attempt i n) (only reply.Gone) (λ node b stood. absurd (never b (sym none ∙ stood))) k)
-            ∙ none_kept key (n == n) (stepped_attempt (dial_rules_at configs n) at seed reply.Gone (taken log (entry_of (event at seed (act.Attempt i n)) (only reply.Gone)))) i k f none)
+            let e : Entry = entry_of (event at seed (act.Attempt i n)) (only reply.Gone) in
+            asks (act.Attempt i n) (only reply.Gone) refl refl refl refl refl tt
+            (λ k. ap (is_attempt_of key)
+            (sym (attempts_of-append configs log e n k)
+            ∙ (attempts_of-act configs log e n k (act.Attempt i n) refl
+            ∙ ap (λ items. attempt_told (dial_rules_at configs n) n k (took_tells n i at seed items ++ []) (f k)) (took_nothing log e refl))))
         by_attempt (Some a) stands = stands_weighs i a stands
 
     -- ---- a handshake's, of which only the first that waits grants
@@ -276,7 +283,7 @@ module _ (configs : List Config) (n : ℕ) (key : Key) (log : List Entry) where
         let held = holds_kept configs n key log (entry_of (event at seed (act.Handshake h n)) r) (untried (act.Handshake h n) r refl) in
         let handed = hands.handed in
         let ended = no_grants_stand n key m.ended hands.ended in
-        weighs.moved configs n key log (event at seed (act.Handshake h n)) r refl refl (λ k. refl) m (omega (arith, held, handed, ended)) hands.no_release (no_releases_stand n key m.ended hands.ended)
+        weighs.moved configs n key log (event at seed (act.Handshake h n)) r refl refl (λ k. ends_untold log (entry_of (event at seed (act.Handshake h n)) r) n k (act.Handshake h n) refl refl) m (omega (arith, held, handed, ended)) hands.no_release (no_releases_stand n key m.ended hands.ended)
 
     handshake_weighs : (h : ℕ) → GrantsFirst n key log h → Weighs (event at seed (act.Handshake h n)) (handshake_step_row configs log h n at)
     handshake_weighs h only_first =
@@ -302,14 +309,14 @@ module _ (configs : List Config) (n : ℕ) (key : Key) (log : List Entry) where
     finish_weighs link ok = by_opening (openings_of log link)
       where
         by_verdict : (o : Opening) (dialing : Option Attempt) (end : Option ListeningEnd) (v : Option Bool) → Weighs (event at seed (act.Finish link ok)) (finished_row o dialing end v)
-        by_verdict o dialing end None = asks (act.Finish link ok) (only reply.Pending) refl refl (λ k. refl) refl refl tt (untried (act.Finish link ok) (only reply.Pending) refl)
-        by_verdict o dialing end (Some agree) = asks (act.Finish link ok) (finished_row o dialing end (Some agree)) refl refl (λ k. refl) refl refl (finish_plain n key o agree dialing end) (untried (act.Finish link ok) (finished_row o dialing end (Some agree)) refl)
+        by_verdict o dialing end None = asks (act.Finish link ok) (only reply.Pending) refl refl refl refl refl tt (untried (act.Finish link ok) (only reply.Pending) refl)
+        by_verdict o dialing end (Some agree) = asks (act.Finish link ok) (finished_row o dialing end (Some agree)) refl refl refl refl refl (finish_plain n key o agree dialing end) (untried (act.Finish link ok) (finished_row o dialing end (Some agree)) refl)
 
         by_opening : (p : Option Opening) → Weighs (event at seed (act.Finish link ok)) (elim p [
           | None ↦ only reply.Gone
           | Some o ↦ finish_by configs log ok o (attempts_of configs log o.node o.attempt) (listening_ends_of log o.to link)
         ])
-        by_opening None = asks (act.Finish link ok) (only reply.Gone) refl refl (λ k. refl) refl refl tt (untried (act.Finish link ok) (only reply.Gone) refl)
+        by_opening None = asks (act.Finish link ok) (only reply.Gone) refl refl refl refl refl tt (untried (act.Finish link ok) (only reply.Gone) refl)
         by_opening (Some o) =
             let dialing : Option Attempt = attempts_of configs log o.node o.attempt in
             let end : Option ListeningEnd = listening_ends_of log o.to link in
@@ -343,7 +350,7 @@ module _ (configs : List Config) (n : ℕ) (key : Key) (log : List Entry) where
     tracker_at m false differ =
         weighs.other configs n key log at seed (act.Tracker m) (rows.tracker_row configs log m at) (row_shape configs log at seed (act.Tracker m))
         (record { dialer = refl; handshakes = λ h. refl; spawner = refl; tracker = ap (λ b. b && true) differ })
-        (record { dialer = other_way m n differ; handshakes = λ h. other_way m n differ; spawner = refl; tracker = other_way m n differ }) differ refl (λ k. refl) (untried (act.Tracker m) (rows.tracker_row configs log m at) refl)
+        (record { dialer = other_way m n differ; handshakes = λ h. other_way m n differ; spawner = refl; tracker = other_way m n differ }) differ refl refl (untried (act.Tracker m) (rows.tracker_row configs log m at) refl)
 
     dialer_at : (m : ℕ) (b : Bool) → (m == n) ≡ b → Weighs (event at seed (act.Dialer m)) (row configs log at seed (act.Dialer m))
     unfolding row
@@ -351,7 +358,7 @@ module _ (configs : List Config) (n : ℕ) (key : Key) (log : List Entry) where
     dialer_at m false differ =
         let r : Row = dialer_row configs log m at seed in
         weighs.other configs n key log at seed (act.Dialer m) r (row_shape configs log at seed (act.Dialer m)) (record { dialer = ap (λ b. b && true) differ; handshakes = λ h. refl; spawner = refl; tracker = refl })
-        (record { dialer = refl; handshakes = λ h. refl; spawner = refl; tracker = ap (λ b. b && true) differ }) refl refl (λ k. refl)
+        (record { dialer = refl; handshakes = λ h. refl; spawner = refl; tracker = ap (λ b. b && true) differ }) refl refl refl
         (untried (act.Dialer m) r differ)
 
     attempt_at : (i m : ℕ) (b : Bool) → (m == n) ≡ b → Weighs (event at seed (act.Attempt i m)) (row configs log at seed (act.Attempt i m))
@@ -360,7 +367,7 @@ module _ (configs : List Config) (n : ℕ) (key : Key) (log : List Entry) where
     attempt_at i m false differ =
         let r : Row = attempt_step_row configs log i m at seed in
         weighs.other configs n key log at seed (act.Attempt i m) r (row_shape configs log at seed (act.Attempt i m)) (record { dialer = refl; handshakes = λ h. refl; spawner = refl; tracker = refl })
-        (record { dialer = refl; handshakes = λ h. refl; spawner = ap (λ b. (b && true) || false) differ; tracker = ap (λ b. (b && true) || false) differ }) refl refl (λ k. refl)
+        (record { dialer = refl; handshakes = λ h. refl; spawner = ap (λ b. (b && true) || false) differ; tracker = ap (λ b. (b && true) || false) differ }) refl refl refl
         (untried (act.Attempt i m) r differ)
 
     handshake_at : (i m : ℕ) (b : Bool) → (m == n) ≡ b → GrantsFirst n key log i → Weighs (event at seed (act.Handshake i m)) (row configs log at seed (act.Handshake i m))
@@ -375,7 +382,7 @@ module _ (configs : List Config) (n : ℕ) (key : Key) (log : List Entry) where
           handshakes = λ h. ap (λ b. b && (i == h)) differ;
           spawner = ap (λ b. (b && true) || false) differ;
           tracker = ap (λ b. (b && true) || false) differ;
-        }) refl refl (λ k. refl) (untried (act.Handshake i m) (handshake_step_row configs log i m at) refl)
+        }) refl refl refl (untried (act.Handshake i m) (handshake_step_row configs log i m at) refl)
 
     spawner_at : (m : ℕ) (b : Bool) → (m == n) ≡ b → Each StandsFit (live log) → is_ended log n (length log) ≡ false → Weighs (event at seed (act.Spawner m)) (row configs log at seed (act.Spawner m))
     unfolding row
@@ -383,7 +390,7 @@ module _ (configs : List Config) (n : ℕ) (key : Key) (log : List Entry) where
     spawner_at m false differ fitting unended =
         weighs.other configs n key log at seed (act.Spawner m) (spawner_row log m) (row_shape configs log at seed (act.Spawner m))
         (record { dialer = refl; handshakes = λ h. refl; spawner = ap (λ b. b && true) differ; tracker = refl })
-        (record { dialer = refl; handshakes = λ h. refl; spawner = refl; tracker = refl }) refl differ (λ k. refl) (untried (act.Spawner m) (spawner_row log m) refl)
+        (record { dialer = refl; handshakes = λ h. refl; spawner = refl; tracker = refl }) refl differ refl (untried (act.Spawner m) (spawner_row log m) refl)
 
     pub each_weighs : Each StandsFit (live log) → ((h : ℕ) → GrantsFirst n key log h) → is_ended log n (length log) ≡ false → (a : Act) → Weighs (event at seed a) (row configs log at seed a)
     unfolding row
@@ -391,9 +398,9 @@ module _ (configs : List Config) (n : ℕ) (key : Key) (log : List Entry) where
     each_weighs fitting first unended (act.RecvStep conn m) = receiver_weighs conn m
     each_weighs fitting first unended (act.Ask what m) = ask_weighs what m
     each_weighs fitting first unended (act.Answer e) =
-        weighs.other configs n key log at seed (act.Answer e) (rows.answer_row log e) (row_shape configs log at seed (act.Answer e)) (told_aside (asked_by log e) e n) (nowhere n) refl refl (λ k. refl) (untried (act.Answer e) (rows.answer_row log e) refl)
+        weighs.other configs n key log at seed (act.Answer e) (rows.answer_row log e) (row_shape configs log at seed (act.Answer e)) (told_aside (asked_by log e) e n) (nowhere n) refl refl refl (untried (act.Answer e) (rows.answer_row log e) refl)
     each_weighs fitting first unended (act.Next e) =
-        weighs.other configs n key log at seed (act.Next e) (rows.next_row log e) (row_shape configs log at seed (act.Next e)) (told_aside (asked_by log e) e n) (nowhere n) refl refl (λ k. refl) (untried (act.Next e) (rows.next_row log e) refl)
+        weighs.other configs n key log at seed (act.Next e) (rows.next_row log e) (row_shape configs log at seed (act.Next e)) (told_aside (asked_by log e) e n) (nowhere n) refl refl refl (untried (act.Next e) (rows.next_row log e) refl)
     each_weighs fitting first unended (act.Tracker m) = tracker_at m (m == n) refl
     each_weighs fitting first unended (act.Dialer m) = dialer_at m (m == n) refl
     each_weighs fitting first unended (act.Spawner m) = spawner_at m (m == n) refl fitting unended
@@ -405,22 +412,22 @@ module _ (configs : List Config) (n : ℕ) (key : Key) (log : List Entry) where
         let r : Row = listener_row configs log m at in
         let ev : Event = event at seed (act.Listener m) in
         weighs.dropped_weighs configs n key log at seed ev r (cond (turns_away r.reply) (arriving_end log m) None)
-        (weighs.plain_weighs configs n key log ev r refl refl (λ k. refl) aside.0 aside.1 (untried (act.Listener m) r refl)) (listener_shape configs log m at).moves
+        (weighs.plain_weighs configs n key log ev r refl refl (λ k. ends_untold log (entry_of ev r) n k (act.Listener m) refl refl) aside.0 aside.1 (untried (act.Listener m) r refl)) (listener_shape configs log m at).moves
     each_weighs fitting first unended (act.Resolve addresses i m) =
         let r : Row = resolve_row configs log addresses i m in
         weighs.other configs n key log at seed (act.Resolve addresses i m) r (row_shape configs log at seed (act.Resolve addresses i m)) (record { dialer = refl; handshakes = λ h. refl; spawner = refl; tracker = refl })
-        (record { dialer = refl; handshakes = λ h. refl; spawner = refl; tracker = refl }) refl refl (λ k. refl)
-        (λ k. ap (is_attempt_of key) (tried (act.Resolve addresses i m) r tt k) ∙ told_kept key (m == n) (told_addresses r.reply) i k f (addresses_kept key r.reply))
+        (record { dialer = refl; handshakes = λ h. refl; spawner = refl; tracker = refl }) refl refl refl
+        (only_told (act.Resolve addresses i m) r refl)
     each_weighs fitting first unended (act.Connect i from m to) =
         let r : Row = connect_row configs log i from m to in
         weighs.other configs n key log at seed (act.Connect i from m to) r (row_shape configs log at seed (act.Connect i from m to)) (record { dialer = refl; handshakes = λ h. refl; spawner = refl; tracker = refl })
-        (record { dialer = refl; handshakes = λ h. refl; spawner = refl; tracker = refl }) refl refl (λ k. refl)
-        (λ k. ap (is_attempt_of key) (tried (act.Connect i from m to) r tt k) ∙ told_kept key (m == n) (told_link (length log) r.reply r.puts) i k f (link_kept key (length log) r.reply r.puts))
+        (record { dialer = refl; handshakes = λ h. refl; spawner = refl; tracker = refl }) refl refl refl
+        (only_told (act.Connect i from m to) r refl)
     each_weighs fitting first unended (act.Refuse i m) =
         let r : Row = refuse_row configs log i m in
         weighs.other configs n key log at seed (act.Refuse i m) r (row_shape configs log at seed (act.Refuse i m)) (record { dialer = refl; handshakes = λ h. refl; spawner = refl; tracker = refl })
-        (record { dialer = refl; handshakes = λ h. refl; spawner = refl; tracker = refl }) refl refl (λ k. refl)
-        (λ k. ap (is_attempt_of key) (tried (act.Refuse i m) r tt k) ∙ told_kept key (m == n) (told_answer (length log) r.reply) i k f (answer_kept key (length log) r.reply))
+        (record { dialer = refl; handshakes = λ h. refl; spawner = refl; tracker = refl }) refl refl refl
+        (only_told (act.Refuse i m) r refl)
     each_weighs fitting first unended a =
         weighs.other configs n key log at seed a (row configs log at seed a) (row_shape configs log at seed a) (record { dialer = refl; handshakes = λ h. refl; spawner = refl; tracker = refl })
-        (record { dialer = refl; handshakes = λ h. refl; spawner = refl; tracker = refl }) refl refl (λ k. refl) (untried a (row configs log at seed a) refl)
+        (record { dialer = refl; handshakes = λ h. refl; spawner = refl; tracker = refl }) refl refl refl (untried a (row configs log at seed a) refl)

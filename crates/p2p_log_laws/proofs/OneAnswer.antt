@@ -1,6 +1,7 @@
 -- Of the words about a handshake one waits at a time, over a lawful log.
 use Rattle.std.proofs.Common.{◌≡◌, ℕ, suc, ◌+◌, ◌≤◌, Bool, true, false, List, [], ◌∷◌, ◌++◌, length, ◌⊎◌, inl, inr, refl, ap, sym, subst, ◌∙◌, arith, length-append}
 use Rattle.std.specs.Prelude.{◌&&◌, ◌||◌, not, count_by}
+use Rattle.p2p_log_rules.proofs.Bools.{and_false, and_true}
 use Rattle.p2p_log.specs.declared.config.Config.{Config}
 use Rattle.p2p_log.specs.declared.entry.Entry.{Entry}
 use Rattle.p2p_log.specs.declared.event.Event.{Event}
@@ -9,13 +10,12 @@ use Rattle.p2p_log_rules.specs.declared.row.Row.{Row}
 use Rattle.p2p_log_rules.specs.Effect.{entry_of, row}
 use Rattle.p2p_log_rules.specs.Handshakes.{takes_acceptance, is_accepted}
 use Rattle.p2p_log_rules.specs.Moves.{Moves}
-use Rattle.p2p_log_rules.proofs.Handshakes.{has_taken-append}
+use Rattle.p2p_log_rules.proofs.HandshakeTook.{has_taken-now}
 use Rattle.p2p_log_laws.specs.Grants.{one}
 use Rattle.p2p_log_laws.specs.OneAnswer.{Words, is_for, waiting_for, ends_exchange, has_ended, is_open, HasOne}
 use Rattle.p2p_log_laws.proofs.Answering.{accepts_now, Begins, Ends, Answers}
 use Rattle.p2p_log_laws.proofs.EachAnswers.{each_answers}
-use Rattle.p2p_log_laws.proofs.Exchanges.{AreLinked, has_ended-append, ends_once, ends_begun}
-use Rattle.p2p_log_laws.proofs.Plain.{and_false}
+use Rattle.p2p_log_laws.proofs.Exchanges.{Over, has_ended-append, ends_once, ends_begun}
 use Rattle.p2p_log_laws.proofs.Untold.{Untold}
 use Rattle.p2p_log_laws.proofs.Weighing.{weight, weighed}
 
@@ -39,10 +39,6 @@ open_ended a ends ended now = ap (λ b. one (a && not (b || ended))) now ∙ ap 
 one_of : (b : Bool) → one b + one (not b) ≡ 1
 one_of true = refl
 one_of false = refl
-
-and_true : (b : Bool) → (b && true) ≡ b
-and_true true = refl
-and_true false = refl
 
 -- ---- the sums
 
@@ -84,7 +80,7 @@ module _ (w : Words) (sound : (w.acceptance && w.refusal) ≡ false) (configs : 
       at_most true = omega arith
       at_most false = omega arith
 
-  module _ (before : List Entry) (ev : Event) (linked : AreLinked n before) (untold : Untold takes_acceptance refl configs n name before) (h : Holds before) where
+  module _ (before : List Entry) (ev : Event) (over : Over n name before) (untold : Untold takes_acceptance refl configs n name before) (h : Holds before) where
     abbrev r : Row
     r = row configs before ev.at ev.seed ev.act
 
@@ -114,7 +110,7 @@ module _ (w : Words) (sound : (w.acceptance && w.refusal) ≡ false) (configs : 
 
     open_is : is_open n name w (before ++ e ∷ []) ≡ ((not w.acceptance || (accepting || accepted)) && not (ending || ended))
     open_is =
-        ap (λ b. (not w.acceptance || b) && not (has_ended n name (before ++ e ∷ []))) (has_taken-append takes_acceptance before e n name)
+        ap (λ b. (not w.acceptance || b) && not (has_ended n name (before ++ e ∷ []))) (has_taken-now takes_acceptance before e n name)
         ∙ ap (λ b. (not w.acceptance || (accepting || accepted)) && not b) (has_ended-append n name before e)
 
     abbrev opens : ℕ
@@ -156,12 +152,12 @@ module _ (w : Words) (sound : (w.acceptance && w.refusal) ≡ false) (configs : 
 
       by_end : Ends w n name before ev r → Holds (before ++ e ∷ [])
       by_end ends =
-          let first : ended ≡ false = ends_once n name before linked.leads linked.early (linked.over name) ev.act r.reply ends.ending in
+          let first : ended ≡ false = ends_once n name before over ev.act r.reply ends.ending in
           let was : is_open n name w before ≡ (not w.acceptance || accepted) = ap (λ b. (not w.acceptance || accepted) && not b) first ∙ and_true (not w.acceptance || accepted) in
           record {
             one_waits = told now taken gone old more opens (one (not w.acceptance || accepted)) moved ends.one_put
                 (ap one open_is ∙ open_ended (not w.acceptance || (accepting || accepted)) ending ended ends.ending) (subst (λ b. old + one b ≤ 1) was h.one_waits);
-            none_before = λ past. absurd (too_late (length (before ++ e ∷ [])) (length before) name longer past (ends_begun n name before linked.leads linked.early ev.act r.reply ends.ending));
+            none_before = λ past. absurd (too_late (length (before ++ e ∷ [])) (length before) name longer past (ends_begun n name before ev.act r.reply ends.ending));
           }
 
     pub holds_next : Holds (before ++ e ∷ [])

@@ -1,11 +1,12 @@
 -- The peer of a handshake is asked for once, while the handshake runs, and after keys were exchanged.
-use Rattle.std.proofs.Common.{◌≡◌, ℕ, zero, suc, ◌+◌, ◌≤◌, Bool, true, false, cond, List, [], ◌∷◌, ◌++◌, map, take, length, Option, Some, None, refl, ap, sym, subst, ◌∙◌, arith, eq-eqb, eqb-true}
+use Rattle.std.proofs.Common.{◌≡◌, ℕ, zero, suc, ◌+◌, ◌≤◌, Bool, true, false, cond, List, [], ◌∷◌, ◌++◌, map, take, length, Option, Some, None, ◌⊎◌, inl, inr, refl, ap, sym, subst, ◌∙◌, arith, eqb-true}
 use Rattle.std.specs.Prelude.{◌==◌, ◌&&◌, ◌||◌, not, count_by, filter}
 use Rattle.std.specs.List.{AllByRecursion as Each, list_any}
 use Rattle.std.proofs.lemmas.Bool.{and_parts}
 use Rattle.std.proofs.lemmas.Bool.Decides.{nat_tests}
 use Rattle.std.proofs.lemmas.List.Folds.{list_any-append}
 use Rattle.std.proofs.lemmas.List.Sums.{sum_by-cons}
+use Rattle.p2p_log_rules.proofs.Bools.{and_false, or_true}
 use Rattle.p2p_tracker_calls.specs.declared.gates.Reply.TheVariants as gates
 use Rattle.p2p_base.specs.declared.key.Key.{Key}
 use Rattle.p2p_log.specs.declared.config.Config.{Config}
@@ -32,11 +33,13 @@ use Rattle.p2p_log_rules.specs.Dropping.{LinkEnd, dropping}
 use Rattle.p2p_log_rules.specs.Puts.{broke_off}
 use Rattle.p2p_log_rules.specs.Effect.{effect, entry_of, row}
 use Rattle.p2p_log_rules.specs.Facts.{taken}
-use Rattle.p2p_log_rules.specs.Handshakes.{with_admitted, ends_handshake, unless_ended, acted_handshakes, handshakes_of, is_handshaking, steps_handshake, takes_exchange, is_finished, Peer, peer_at}
-use Rattle.p2p_log_rules.specs.Handshaking.{handshake_deadline, exchanged_row, took_row, is_due, handshake_turn, handshake_row}
+use Rattle.p2p_log_rules.specs.Handshakes.{ends_handshake, handshakes_of, is_handshaking, takes_exchange, is_finished, Peer, peer_at}
+use Rattle.p2p_log_rules.specs.Handshaking.{handshake_deadline, exchanged_row, handshake_took_row, is_due, handshake_turn, handshake_row}
 use Rattle.p2p_log_rules.specs.Moves.{Moves}
 use Rattle.p2p_log_rules.specs.Rows.{only, is_spawner_full}
-use Rattle.p2p_log_rules.proofs.Handshakes.{is_among, among-without, handshakes_of-append, has_taken-append}
+use Rattle.p2p_log_rules.proofs.HandshakeEnds.{among_more}
+use Rattle.p2p_log_rules.proofs.Handshakes.{without_name, Begins, Ends, handshakes_of-shaken, handshakes_now, is_among, among-without}
+use Rattle.p2p_log_rules.proofs.HandshakeTook.{IsOther, step_or_other, has_taken-step, has_taken-other}
 use Rattle.p2p_log_rules.proofs.Moves.{one_taken}
 use Rattle.p2p_log_laws.specs.Grants.{one}
 use Rattle.p2p_log_laws.specs.NodeGrants.{put_of}
@@ -45,14 +48,9 @@ use Rattle.p2p_log_laws.proofs.Asking.{each_unasked}
 use Rattle.p2p_log_laws.proofs.Dropped.{flying, taken_same, ended_more, taken-dropping}
 use Rattle.p2p_log_laws.proofs.HandshakeShape.{handshake_moves, handshake_shape}
 use Rattle.p2p_log_laws.proofs.LineShape.{whole_taken, in_line}
-use Rattle.p2p_log_laws.proofs.Plain.{and_false}
 use Rattle.p2p_log_laws.proofs.Shape.{no_moves, one_move}
 use Rattle.p2p_log_laws.proofs.Shapes.{row_shape}
 use Rattle.p2p_log_laws.proofs.Weighing.{weight, weighed, count_by-one, taken_items}
-
-or_true : (b : Bool) → (b || true) ≡ true
-or_true true = refl
-or_true false = refl
 
 module _ (n name : ℕ) where
   abbrev q : Queue
@@ -159,12 +157,8 @@ module _ (configs : List Config) (n name : ℕ) where
   none_asked a b is le = omega (arith, is, le)
 
   module _ (log : List Entry) (ev : Event) where
-    -- it runs on by what its act did
-    runs_on : (r : Row) → (acted_handshakes n (length log) r.reply (taken log (entry_of ev r)) ev.act (handshakes_of log n) ≡ handshakes_of log n) → is_handshaking (log ++ entry_of ev r ∷ []) n name ≡ is_handshaking log n name
-    runs_on r same = ap (is_among name) (handshakes_of-append log (entry_of ev r) n ∙ same)
-
     -- an act that is no step of it
-    module _ (other : steps_handshake n name ev.act ≡ false) where
+    module _ (other : IsOther n name ev.act) where
       abbrev r : Row
       r = row configs log ev.at ev.seed ev.act
 
@@ -172,34 +166,22 @@ module _ (configs : List Config) (n name : ℕ) where
       e = entry_of ev r
 
       finished_kept : is_finished (log ++ e ∷ []) n name ≡ is_finished log n name
-      finished_kept = has_taken-append takes_exchange log e n name ∙ ap (λ b. (b && takes_exchange (taken log e)) || is_finished log n name) other
+      finished_kept = has_taken-other takes_exchange log e n name other
 
-      acted_among : (a : Act) (rep : Reply) (items : List Item) → steps_handshake n name a ≡ false → is_handshaking log n name ≡ true → is_among name (acted_handshakes n (length log) rep items a (handshakes_of log n)) ≡ true
-      acted_among (act.Listener m) rep items still runs = by (m == n) rep
+      runs_on : is_handshaking log n name ≡ true → (handshakes_of (log ++ e ∷ []) n ≡ handshakes_of log n) ⊎ (Begins log e n ⊎ Ends log e n) → is_handshaking (log ++ e ∷ []) n name ≡ true
+      runs_on runs (inl same) = ap (is_among name) same ∙ runs
+      runs_on runs (inr (inl begins)) = ap (is_among name) begins.now ∙ among_more name (length log) (handshakes_of log n) runs
+      runs_on runs (inr (inr ends)) =
+          ap (is_among name) ends.now ∙ (among-without ends.name name (handshakes_of log n) ∙ (ap (λ b. not b && is_handshaking log n name) (apart (name == ends.name) refl) ∙ runs))
         where
-          by : (b : Bool) (p : Reply) → is_among name (cond b (with_admitted (length log) p (handshakes_of log n)) (handshakes_of log n)) ≡ true
-          by false p = runs
-          by true (reply.Gates gates.Admitted) =
-              list_any-append (λ k. name == k) (handshakes_of log n) (length log ∷ []) ∙ ap (λ b. b || list_any (λ k. name == k) (length log ∷ [])) runs
-          by true (reply.Gates _) = runs
-          by true _ = runs
-      acted_among (act.Handshake k m) rep items still runs = by (m == n) refl (ends_handshake rep items)
-        where
-          swap : (i j : ℕ) → (i == j) ≡ (j == i)
-          swap i j = grind (arith, nat_tests)
-
-          by : (b : Bool) → (m == n) ≡ b → (c : Bool) → is_among name (cond b (unless_ended c k (handshakes_of log n)) (handshakes_of log n)) ≡ true
-          by false there c = runs
-          by true here false = runs
-          by true here true =
-              among-without k name (handshakes_of log n)
-              ∙ (ap (λ b. not b && is_handshaking log n name) (swap name k ∙ (ap (λ b. b && (k == name)) (sym here) ∙ still)) ∙ runs)
-      acted_among a rep items still runs = runs
+          apart : (b : Bool) → (name == ends.name) ≡ b → (name == ends.name) ≡ false
+          apart true is = absurd (other (ends.acts ∙ ap (λ k. act.Handshake k n) (sym (eqb-true name ends.name is))))
+          apart false is = is
 
       kept : goes_on log ≡ true → goes_on (log ++ e ∷ []) ≡ true
       kept h =
           let both = and_parts (is_handshaking log n name) (is_finished log n name) h in
-          let running : is_handshaking (log ++ e ∷ []) n name ≡ true = ap (is_among name) (handshakes_of-append log e n) ∙ acted_among ev.act r.reply (taken log e) other both.0 in
+          let running : is_handshaking (log ++ e ∷ []) n name ≡ true = runs_on both.0 (handshakes_now log e n) in
           ap (λ b. b && is_finished (log ++ e ∷ []) n name) running ∙ (finished_kept ∙ both.1)
 
       other_asked : Asked log → Asked (log ++ e ∷ [])
@@ -242,19 +224,13 @@ module _ (configs : List Config) (n name : ℕ) where
         let e : Entry = entry_of ev r in
         let m : Moves log r = no_moves log r refl refl in
         let both = and_parts (is_handshaking log n name) (is_finished log n name) on in
-        let running : is_handshaking (log ++ e ∷ []) n name ≡ true = runs_on log ev r (same_names (n == n)) ∙ both.0 in
-        let finished : is_finished (log ++ e ∷ []) n name ≡ true =
-        has_taken-append takes_exchange log e n name ∙ (ap (λ b. (((n == n) && (name == name)) && takes_exchange (taken log e)) || b) both.1 ∙ or_true (((n == n) && (name == name)) && takes_exchange (taken log e)))
-        in
+        let running : is_handshaking (log ++ e ∷ []) n name ≡ true = ap (is_among name) (handshakes_of-shaken log e n name refl) ∙ both.0 in
+        let finished : is_finished (log ++ e ∷ []) n name ≡ true = has_taken-step takes_exchange log e n name refl ∙ (ap (λ b. takes_exchange (taken log e) || b) both.1 ∙ or_true (takes_exchange (taken log e))) in
         same (waiting_asked n name (log ++ e ∷ [])) (waiting_asked n name log) (one (not (goes_on (log ++ e ∷ [])))) (one (not (goes_on log))) (weighed log ev r m (is_asked n name))
         (ap (λ b. one (not b)) (ap (λ b. b && is_finished (log ++ e ∷ []) n name) running ∙ finished)) h
       where
         same : (now old a b : ℕ) → now + 0 ≡ old + 0 → a ≡ 0 → old + b ≤ 1 → now + a ≤ 1
         same now old a b moved none before = omega (arith, moved, none, before)
-
-        same_names : (b : Bool) → cond b (handshakes_of log n) (handshakes_of log n) ≡ handshakes_of log n
-        same_names true = refl
-        same_names false = refl
 
     module _ (x : Envelope) (rest : List Envelope) (first : line log own ≡ x ∷ rest) (no_one : waiting_asked n name log ≡ 0) (runs : is_handshaking log n name ≡ true) where
       -- it asks for its peer
@@ -265,13 +241,10 @@ module _ (configs : List Config) (n name : ℕ) where
           let m : Moves log r = one_move log own x rest first r refl refl in
           let p : Queue × Item = (queue.Tracker n, item.AskListen name key) in
           let took : taken log e ≡ item.Finished true ∷ [] = taken_items log ev r m ∙ ap (λ i. i ∷ []) is in
-          let here : ((n == n) && (name == name)) ≡ true = ap (λ b. b && (name == name)) (eq-eqb n n refl) ∙ eq-eqb name name refl in
           let running : is_handshaking (log ++ e ∷ []) n name ≡ true =
-          runs_on log ev r (ap (λ i. cond (n == n) (unless_ended (ends_handshake reply.Ok i) name (handshakes_of log n)) (handshakes_of log n)) took ∙ same_names (n == n)) ∙ runs
+          ap (is_among name) (handshakes_of-shaken log e n name refl ∙ ap (λ i. cond (ends_handshake reply.Ok i) (without_name name (handshakes_of log n)) (handshakes_of log n)) took) ∙ runs
           in
-          let finished : is_finished (log ++ e ∷ []) n name ≡ true =
-          has_taken-append takes_exchange log e n name ∙ (ap (λ b. (b && takes_exchange (taken log e)) || is_finished log n name) here ∙ ap (λ i. takes_exchange i || is_finished log n name) took)
-          in
+          let finished : is_finished (log ++ e ∷ []) n name ≡ true = has_taken-step takes_exchange log e n name refl ∙ ap (λ i. takes_exchange i || is_finished log n name) took in
           one_asked (waiting_asked n name (log ++ e ∷ [])) (weight (is_asked n name) m.taken + weight (is_asked n name) m.ended) (waiting_asked n name log) (count_by (is_asked n name) (p ∷ [])) (one (is_asked n name p))
           (one (not (goes_on (log ++ e ∷ [])))) (weighed log ev r m (is_asked n name)) no_one (count_by-one (is_asked n name) p) (at_most (is_asked n name p))
           (ap (λ b. one (not b)) (ap (λ b. b && is_finished (log ++ e ∷ []) n name) running ∙ finished))
@@ -279,22 +252,18 @@ module _ (configs : List Config) (n name : ℕ) where
           one_asked : (now gone old more a b : ℕ) → now + gone ≡ old + more → old ≡ 0 → more ≡ a → a ≤ 1 → b ≡ 0 → now + b ≤ 1
           one_asked now gone old more a b moved is also le none = omega (arith, moved, is, also, le, none)
 
-          same_names : (b : Bool) → cond b (handshakes_of log n) (handshakes_of log n) ≡ handshakes_of log n
-          same_names true = refl
-          same_names false = refl
-
       -- its row, by its oldest item
-      by_item : (full : Bool) (peer : Peer) (i : Item) → x.item ≡ i → Moves log (took_row n full name peer (name_of x) i rest) → Asked (log ++ entry_of ev (took_row n full name peer (name_of x) i rest) ∷ [])
+      by_item : (full : Bool) (peer : Peer) (i : Item) → x.item ≡ i → Moves log (handshake_took_row n full name peer (name_of x) i rest) → Asked (log ++ entry_of ev (handshake_took_row n full name peer (name_of x) i rest) ∷ [])
       by_item full peer (item.Finished true) is m = asks peer.key is
-      by_item full peer (item.Finished false) is m = unasked (took_row n full name peer (name_of x) (item.Finished false) rest) m no_one refl
-      by_item full peer (item.Acceptable true) is m = unasked (took_row n full name peer (name_of x) (item.Acceptable true) rest) m no_one refl
-      by_item full peer (item.Acceptable false) is m = unasked (took_row n full name peer (name_of x) (item.Acceptable false) rest) m no_one refl
+      by_item full peer (item.Finished false) is m = unasked (handshake_took_row n full name peer (name_of x) (item.Finished false) rest) m no_one refl
+      by_item full peer (item.Acceptable true) is m = unasked (handshake_took_row n full name peer (name_of x) (item.Acceptable true) rest) m no_one refl
+      by_item full peer (item.Acceptable false) is m = unasked (handshake_took_row n full name peer (name_of x) (item.Acceptable false) rest) m no_one refl
       by_item true peer (item.Listen (Some key)) is m =
-          unasked (took_row n true name peer (name_of x) (item.Listen (Some key)) rest) m no_one (count_by-one (is_asked n name) (queue.Tracker n, item.Release key) ∙ ap one (and_false (same_queue (queue.Tracker n) (queue.Tracker n))))
+          unasked (handshake_took_row n true name peer (name_of x) (item.Listen (Some key)) rest) m no_one (count_by-one (is_asked n name) (queue.Tracker n, item.Release key) ∙ ap one (and_false (same_queue (queue.Tracker n) (queue.Tracker n))))
       by_item false peer (item.Listen (Some key)) is m =
-          unasked (took_row n false name peer (name_of x) (item.Listen (Some key)) rest) m no_one (count_by-one (is_asked n name) (queue.Spawner n, item.Spawn key peer.link))
-      by_item full peer (item.Listen None) is m = unasked (took_row n full name peer (name_of x) (item.Listen None) rest) m no_one refl
-      by_item full peer i is m = unasked (took_row n full name peer (name_of x) i rest) m no_one refl
+          unasked (handshake_took_row n false name peer (name_of x) (item.Listen (Some key)) rest) m no_one (count_by-one (is_asked n name) (queue.Spawner n, item.Spawn key peer.link))
+      by_item full peer (item.Listen None) is m = unasked (handshake_took_row n full name peer (name_of x) (item.Listen None) rest) m no_one refl
+      by_item full peer i is m = unasked (handshake_took_row n full name peer (name_of x) i rest) m no_one refl
 
     module _ (answered : HasOne n name answers log) (exchanged : HasOne n name exchanges log) (h : Asked log) where
       abbrev full : Bool
@@ -365,9 +334,9 @@ module _ (configs : List Config) (n name : ℕ) where
   -- ---- any entry
 
   -- the same where it drops an end too
-  dropped_asked : (log : List Entry) (ev : Event) (r : Row) (o : Option LinkEnd) → Moves log r → Moves log (dropping log o r) → Asked (log ++ entry_of ev r ∷ []) → Asked (log ++ entry_of ev (dropping log o r) ∷ [])
-  dropped_asked log ev r None m d h = h
-  dropped_asked log ev r (Some cut) m d h =
+  dropped_asked : (log : List Entry) (ev : Event) (acts : ev.act ≡ act.Handshake name n) (r : Row) (o : Option LinkEnd) → Moves log r → Moves log (dropping log o r) → Asked (log ++ entry_of ev r ∷ []) → Asked (log ++ entry_of ev (dropping log o r) ∷ [])
+  dropped_asked log ev acts r None m d h = h
+  dropped_asked log ev acts r (Some cut) m d h =
       let s : Row = dropping log (Some cut) r in
       fewer (waiting_asked n name (log ++ entry_of ev s ∷ [])) (waiting_asked n name (log ++ entry_of ev r ∷ [])) (weight (is_asked n name) d.taken) (weight (is_asked n name) m.taken) (weight (is_asked n name) d.ended)
       (weight (is_asked n name) m.ended) (weight (is_asked n name) (flying log (Some cut))) (waiting_asked n name log + count_by (is_asked n name) r.puts) (one (not (goes_on (log ++ entry_of ev s ∷ []))))
@@ -382,13 +351,14 @@ module _ (configs : List Config) (n name : ℕ) where
 
       running : is_handshaking (log ++ entry_of ev (dropping log (Some cut) r) ∷ []) n name ≡ is_handshaking (log ++ entry_of ev r ∷ []) n name
       running =
-          ap (is_among name) (handshakes_of-append log (entry_of ev (dropping log (Some cut) r)) n ∙ ap (λ items. acted_handshakes n (length log) r.reply items ev.act (handshakes_of log n)) took)
-          ∙ sym (ap (is_among name) (handshakes_of-append log (entry_of ev r) n))
+          ap (is_among name)
+          (handshakes_of-shaken log (entry_of ev (dropping log (Some cut) r)) n name acts
+          ∙ (ap (λ items. cond (ends_handshake r.reply items) (without_name name (handshakes_of log n)) (handshakes_of log n)) took ∙ sym (handshakes_of-shaken log (entry_of ev r) n name acts)))
 
       finished : is_finished (log ++ entry_of ev (dropping log (Some cut) r) ∷ []) n name ≡ is_finished (log ++ entry_of ev r ∷ []) n name
       finished =
-          has_taken-append takes_exchange log (entry_of ev (dropping log (Some cut) r)) n name
-          ∙ (ap (λ items. (steps_handshake n name ev.act && takes_exchange items) || is_finished log n name) took ∙ sym (has_taken-append takes_exchange log (entry_of ev r) n name))
+          has_taken-step takes_exchange log (entry_of ev (dropping log (Some cut) r)) n name acts
+          ∙ (ap (λ items. takes_exchange items || is_finished log n name) took ∙ sym (has_taken-step takes_exchange log (entry_of ev r) n name acts))
 
       same : goes_on (log ++ entry_of ev (dropping log (Some cut) r) ∷ []) ≡ goes_on (log ++ entry_of ev r ∷ [])
       same = ap (λ b. b && is_finished (log ++ entry_of ev (dropping log (Some cut) r) ∷ []) n name) running ∙ ap (λ b. is_handshaking (log ++ entry_of ev r ∷ []) n name && b) finished
@@ -398,21 +368,16 @@ module _ (configs : List Config) (n name : ℕ) where
   unfolding row
   own_effect log at seed answered exchanged h =
       let r : Row = handshake_row configs log name n at in
-      dropped_asked log (record { at = at; seed = seed; act = act.Handshake name n }) r
+      dropped_asked log (record { at = at; seed = seed; act = act.Handshake name n }) refl r
       (cond (broke_off r.reply (map (λ x. x.item) (take 1 (line log (queue.Handshake n name)))) r.puts) (Some ((peer_at log name).link, side.In)) None)
       (handshake_moves configs log name n at) (handshake_shape configs log name n at).moves (own_asked log at seed answered exchanged h)
 
   pub asked_more : (log : List Entry) (ev : Event) → HasOne n name answers log → HasOne n name exchanges log → Asked log → Asked (log ++ effect configs log ev ∷ [])
   unfolding effect
-  asked_more log ev answered exchanged h = by (steps_handshake n name ev.act) refl
+  asked_more log ev answered exchanged h = by (step_or_other n name ev.act)
     where
-      own_event : (a : Act) → ev.act ≡ a → steps_handshake n name a ≡ true → ev ≡ record { at = ev.at; seed = ev.seed; act = act.Handshake name n }
-      own_event (act.Handshake k m) acts here =
-          let both = and_parts (m == n) (k == name) here in
-          ap (λ a. record { at = ev.at; seed = ev.seed; act = a }) (acts ∙ (ap (λ j. act.Handshake j m) (eqb-true k name both.1) ∙ ap (λ j. act.Handshake name j) (eqb-true m n both.0)))
-      own_event _ acts here = cc
-
-      by : (b : Bool) → steps_handshake n name ev.act ≡ b → Asked (log ++ entry_of ev (row configs log ev.at ev.seed ev.act) ∷ [])
-      by false other = other_asked log ev other h
-      by true here =
-          subst (λ (v : Event). Asked (log ++ entry_of v (row configs log v.at v.seed v.act) ∷ [])) (sym (own_event ev.act refl here)) (own_effect log ev.at ev.seed answered exchanged h)
+      by : (ev.act ≡ act.Handshake name n) ⊎ IsOther n name ev.act → Asked (log ++ entry_of ev (row configs log ev.at ev.seed ev.act) ∷ [])
+      by (inr other) = other_asked log ev other h
+      by (inl acts) =
+          subst (λ (v : Event). Asked (log ++ entry_of v (row configs log v.at v.seed v.act) ∷ [])) (ap (λ a. record { at = ev.at; seed = ev.seed; act = a }) (sym acts))
+          (own_effect log ev.at ev.seed answered exchanged h)

@@ -6,6 +6,7 @@ use Rattle.std.proofs.lemmas.Bool.{false≢true}
 use Rattle.std.proofs.lemmas.Bool.Decides.{nat_tests}
 use Rattle.std.proofs.lemmas.List.Concat.{flat_map-append}
 use Rattle.std.proofs.lemmas.List.Sums.{sum_by-append, sum_by-cons}
+use Rattle.p2p_log_rules.proofs.Bools.{and_false}
 use Rattle.p2p_base.specs.declared.key.Key.{Key}
 use Rattle.p2p_log.specs.declared.config.Config.{Config}
 use Rattle.p2p_log.specs.declared.queue.Queue.{Queue}
@@ -28,7 +29,6 @@ use Rattle.p2p_log.proofs.Names.{AreApart-live_from}
 use Rattle.p2p_log_laws.proofs.Balance.{live-none, accepted_more}
 use Rattle.p2p_log.proofs.Each.{Has, Has-first, Has-after, Each-append, Each-filter, Each-weaker}
 use Rattle.p2p_log_laws.proofs.Fitting.{Each-placed, is_idle, bare_carries_none}
-use Rattle.p2p_log_laws.proofs.Plain.{and_false}
 use Rattle.p2p_log_laws.proofs.Shape.{Laws, OfItem, ComesOf, Moved, accepts, idle_bare}
 use Rattle.p2p_log_laws.proofs.Spreading.{one}
 use Rattle.p2p_log_rules.specs.Moves.{Moves}

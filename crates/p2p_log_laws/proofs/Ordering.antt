@@ -4,6 +4,7 @@ use Rattle.std.specs.Prelude.{flat_map, ◌&&◌, ◌||◌, slice_get}
 use Rattle.std.specs.List.{AllByRecursion as Each, list_any}
 use Rattle.std.proofs.lemmas.Bool.{cases_lt, and_parts, false≢true}
 use Rattle.std.proofs.lemmas.Option.{same_Some}
+use Rattle.p2p_log_rules.proofs.Bools.{or_true}
 use Rattle.p2p_log.specs.declared.config.Config.{Config}
 use Rattle.p2p_log.specs.declared.queue.Queue.{Queue}
 use Rattle.p2p_log.specs.declared.queue.Queue.TheVariants as queue
@@ -70,10 +71,6 @@ any_has {X} p (x ∷ xs) h = go (p x) refl h (any_has p xs)
     go : (b : Bool) → p x ≡ b → list_any p (x ∷ xs) ≡ true → (list_any p xs ≡ true → (y : X) × Has xs y × (p y ≡ true)) → (y : X) × Has (x ∷ xs) y × (p y ≡ true)
     go true e k f = (x, inl refl, e)
     go false e k f = let rest = f (sym (ap (λ b. b || list_any p xs) e) ∙ k) in (rest.0, inr rest.1, rest.2)
-
-or_true : (b : Bool) → (b || true) ≡ true
-or_true true = refl
-or_true false = refl
 
 both : (a b : Bool) → a ≡ true → b ≡ true → (a && b) ≡ true
 both a b h i = ap (λ x. x && b) h ∙ i

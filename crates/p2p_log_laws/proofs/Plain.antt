@@ -3,6 +3,7 @@ use Rattle.std.proofs.Common.{◌≡◌, ℕ, Bool, true, false, List, [], ◌�
 use Rattle.std.specs.Prelude.{◌==◌, ◌&&◌, ◌||◌, count_by}
 use Rattle.std.proofs.lemmas.Bool.{false≢true}
 use Rattle.std.specs.List.{AllByRecursion as Each, list_any}
+use Rattle.p2p_log_rules.proofs.Bools.{and_false}
 use Rattle.p2p_base.specs.declared.key.Key.{Key}
 use Rattle.p2p_log.specs.declared.config.Config.{Config}
 use Rattle.p2p_log.specs.declared.queue.Queue.{Queue}
@@ -26,10 +27,6 @@ use Rattle.p2p_log_rules.proofs.Touches.{away}
 use Rattle.p2p_log_laws.proofs.Reaching.{in_flight, in_connection, in_flight-node, in_flight-handshake, Reach, reads, writes, ends_in}
 use Rattle.p2p_log_laws.specs.NodeGrants.{put_of, holds_grants, grants_key, releases_key, puts_grant, puts_release}
 use Rattle.p2p_log_laws.proofs.Weighing.{weight}
-
-pub and_false : (b : Bool) → (b && false) ≡ false
-and_false true = refl
-and_false false = refl
 
 -- a queue that no grant and no release at the node enters
 abbrev pub IsAside : ℕ → Queue → Type 0

@@ -28,7 +28,7 @@ use Rattle.p2p_log.specs.Lines.{name_of, same_name, line}
 use Rattle.p2p_log_rules.specs.declared.row.Half.{Half}
 use Rattle.p2p_log_rules.specs.declared.row.Row.{Row}
 use Rattle.p2p_log_rules.specs.Closing.{is_closed, refused_by}
-use Rattle.p2p_log_rules.specs.Connections.{half_at, is_running, live_half, steps_sender, steps_receiver}
+use Rattle.p2p_log_rules.specs.Connections.{half_at, is_running, live_half}
 use Rattle.p2p_log_rules.specs.Dropping.{is_dropped}
 use Rattle.p2p_log_rules.specs.Ending.{end_row}
 use Rattle.p2p_log_rules.specs.Effect
@@ -205,15 +205,12 @@ module _ (configs : List Config) (log : List Entry) (conn n moment : ℕ) where
     at : half_at log n conn ≡ Some half
     at = (is_live log n conn half lived).at
 
-    steps_it : (steps_sender n conn step || steps_receiver n conn step) ≡ true
-    steps_it = both n conn
-
     near_mailbox : (n == n) ≡ true
     near_mailbox = eq-eqb n n refl
 
     -- no frame will come
     receive_failed : Shape configs log step (end_row log n conn half ended.ReceiveFailed cause.ConnectionEnded [])
-    receive_failed = ended_shape configs log step n conn half lived steps_it (λ r. refl) (with_in log n conn half at) (or_left (n == n) _ near_mailbox) (or_left (n == n) _ near_mailbox) ended.ReceiveFailed [] tt tt tt
+    receive_failed = ended_shape configs log step n conn half lived false refl (λ r. refl) (with_in log n conn half at) (or_left (n == n) _ near_mailbox) (or_left (n == n) _ near_mailbox) ended.ReceiveFailed [] tt tt tt
 
     -- for the frame that came
     module _ (x : Envelope) (rest : List Envelope) (first : line log link ≡ x ∷ rest) where
@@ -221,7 +218,7 @@ module _ (configs : List Config) (log : List Entry) (conn n moment : ℕ) where
           → (Standing configs log → (ev : Event) → ev.act ≡ step → (copy : ℕ × ℕ) → carries copy x ≡ true → Shows configs log (entry_of ev (Effect.refused_row configs log n conn moment half why c x)) copy c)
           → Shape configs log step (Effect.refused_row configs log n conn moment half why c x)
       refused why c shows =
-          end_shape configs log step n conn half lived steps_it (λ r. refl) (with_in log n conn half at) (or_left (n == n) _ near_mailbox) (or_left (n == n) _ near_mailbox) why c (x ∷ [])
+          end_shape configs log step n conn half lived false refl (λ r. refl) (with_in log n conn half at) (or_left (n == n) _ near_mailbox) (or_left (n == n) _ near_mailbox) why c (x ∷ [])
           (stands_first log link x rest first) (first_in (reads configs log step) log link x rest first (reads_link half at), tt)
           (λ stand ev acts y copy has bears. shown stand ev acts y has copy bears)
         where

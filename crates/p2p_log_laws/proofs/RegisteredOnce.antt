@@ -11,9 +11,9 @@ use Rattle.p2p_log.specs.declared.entry.Entry.{Entry}
 use Rattle.p2p_log.specs.declared.event.Act.{Act}
 use Rattle.p2p_log.specs.declared.event.Act.TheVariants as act
 use Rattle.p2p_log.specs.declared.event.Event.{Event}
-use Rattle.p2p_log_rules.specs.Facts.{events_of, capacity_for, registers_at, registered, capacity_in, has_started, sum_capacities}
+use Rattle.p2p_log_rules.specs.Facts.{events_of, capacity_for, with_capacity, registers_at, registered, capacity_in, has_started, sum_capacities, latest_moment}
 use Rattle.p2p_log_rules.specs.Effect.{mailbox_size_at}
-use Rattle.p2p_log_rules.specs.Valid.{fits_usize, is_quota, last_moment, may_register, may_act, is_valid_event, event_fault_from}
+use Rattle.p2p_log_rules.specs.Valid.{fits_usize, is_quota, may_register, may_act, is_valid_event, event_fault_from}
 use Rattle.p2p_log_laws.specs.Subscribing.{registered_by, registrations, EachRegistersOnce}
 
 count_none : {X Y : Type 0} (p : X → Bool) (es : List (X × Y)) → is_some (lookup p es) ≡ false → count_by p (map (λ e. e.0) es) ≡ 0
@@ -41,7 +41,7 @@ module _ (configs : List Config) (n : ℕ) where
   same_one : (a : Act) → map (λ c. c.0) (registers_at configs n a) ≡ registered_by n a
   same_one (act.Register c m rate) = by (m == n)
     where
-      by : (b : Bool) → map (λ (x : ℕ × ℕ). x.0) (cond b ((c, capacity_for (slice_get configs n) rate) ∷ []) []) ≡ cond b (c ∷ []) []
+      by : (b : Bool) → map (λ (x : ℕ × ℕ). x.0) (map (with_capacity configs n) (cond b ((c, rate) ∷ []) [])) ≡ cond b (c ∷ []) []
       by true = refl
       by false = refl
   same_one _ = refl
@@ -100,7 +100,7 @@ module _ (configs : List Config) (n : ℕ) where
 
   valid_parts : (before : List Event) (v : Event) → is_valid_event configs before v ≡ true → may_act configs before v.act ≡ true
   unfolding is_valid_event
-  valid_parts before v h = (and_parts (nat_le (last_moment before) v.at) (may_act configs before v.act) h).1
+  valid_parts before v h = (and_parts (nat_le (latest_moment before) v.at) (may_act configs before v.act) h).1
 
   once_more : (before : List Event) (v : Event) → Once before → is_valid_event configs before v ≡ true → Once (before ++ v ∷ [])
   once_more before v once valid c =

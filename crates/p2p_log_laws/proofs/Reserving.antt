@@ -5,6 +5,7 @@ use Rattle.std.specs.Prelude.{◌||◌, not, filter, slice_get}
 use Rattle.std.specs.List.{AllByRecursion as Each, list_any}
 use Rattle.std.proofs.lemmas.Bool.{false≢true}
 use Rattle.std.proofs.lemmas.Option.{same_Some}
+use Rattle.p2p_log_rules.proofs.Bools.{and_false}
 use Rattle.p2p_base.specs.declared.key.Key.{Key}
 use Rattle.p2p_log.specs.declared.config.Config.{Config}
 use Rattle.p2p_log.specs.declared.queue.Queue.{Queue}
@@ -34,12 +35,11 @@ use Rattle.p2p_log_laws.proofs.EndOlder.{open_parts, is_open, open_once, open_is
 use Rattle.p2p_log_laws.proofs.HalfSteps.{IsFirst, tells_any, send_begins}
 use Rattle.p2p_log_laws.proofs.Leaving.{stand_in_order, taken_goes, passes}
 use Rattle.p2p_log_laws.proofs.NodeGrants.{each_node_turn, held_by_calls}
-use Rattle.p2p_log_laws.proofs.Plain.{and_false}
 use Rattle.p2p_log_laws.proofs.Prefixes.{lawful_at_end}
 use Rattle.p2p_log_laws.proofs.Shape.{Origin, Moved-origins}
 use Rattle.p2p_log_laws.proofs.Turns.{one_holder}
 use Rattle.p2p_log_laws.proofs.Words as words
-use Rattle.p2p_log_laws.proofs.Words.{count_has, get_has, placed_has, tracker_ends_none, waits, is_linked, holds, IsWord, IsCurrent, Reserved, IsOf, reserved_first}
+use Rattle.p2p_log_laws.proofs.Words.{count_has, get_has, placed_has, waits, is_linked, holds, IsWord, IsCurrent, Reserved, IsOf, reserved_first}
 
 -- a connection that is known is one that has not ended
 record IsLive (n : ℕ) (log : List Entry) (conn : ℕ) (key : Key) : Type 0 where
@@ -158,15 +158,15 @@ module _ (configs : List Config) (n : ℕ) (script : List Event) (before : List 
     | inr some ↦ none_waits conn key live some
   ]
 
-  still_live : (conn : ℕ) (key : Key) → IsLive n before conn key → ends_connection n conn e ≡ false → IsLive n log conn key
+  still_live : (conn : ℕ) (key : Key) → IsLive n before conn key → ends_connection n conn before e ≡ false → IsLive n log conn key
   still_live conn key live goes_on =
       let parts = open_parts before n conn live.made live.lives in
       live_of n log conn key live.made (connections_of-longer before (e ∷ []) n conn live.made parts.made) live.of (is_ended-kept before e n conn goes_on ∙ parts.lives)
 
-  ends_or_not : (conn : ℕ) (key : Key) → IsLive n before conn key → (ends_connection n conn e ≡ false) ⊎ (1 ≤ waits configs n key log)
-  ends_or_not conn key live = by (ends_connection n conn e) refl
+  ends_or_not : (conn : ℕ) (key : Key) → IsLive n before conn key → (ends_connection n conn before e ≡ false) ⊎ (1 ≤ waits configs n key log)
+  ends_or_not conn key live = by (ends_connection n conn before e) refl
     where
-      by : (b : Bool) → ends_connection n conn e ≡ b → (ends_connection n conn e ≡ false) ⊎ (1 ≤ waits configs n key log)
+      by : (b : Bool) → ends_connection n conn before e ≡ b → (ends_connection n conn before e ≡ false) ⊎ (1 ≤ waits configs n key log)
       by false is = inl is
       by true is = inr (subst (λ k. 1 ≤ waits configs n k log) live.of (words.ends_waits configs n script before ev lawful old conn live.made live.lives is))
 
@@ -188,7 +188,7 @@ module _ (configs : List Config) (n : ℕ) (script : List Event) (before : List 
     | inr new ↦
         let b : Begins x conn key = begins x conn key w new in
         let parts = open_parts before n conn b.live.made b.live.lives in
-        inl (is_ended-kept before e n conn (ends_none-reply e n conn (ap (λ (k : Row). is_end k.reply) b.row_is)) ∙ parts.lives)
+        inl (is_ended-kept before e n conn (ends_none-reply before e n conn (ap (λ (k : Row). is_end k.reply) b.row_is)) ∙ parts.lives)
   ]
 
   behind : (x y : Envelope) (conn : ℕ) (key : Key) → IsWord configs n log x conn key → Has (live log) y → puts_release n key (put_of y) ≡ true → x.entry < y.entry
@@ -289,7 +289,7 @@ module _ (configs : List Config) (n : ℕ) (script : List Event) (before : List 
       goes_on conn live begun = elim (ends_or_not conn key live) [
         | inl on ↦
             let after : IsLive n log conn key = still_live conn key live on in
-            inl (record { conn = conn; made = after.made; lives = after.lives; of = after.of; begun = is_begun-append before e n conn ∙ ap (λ b. b || begins_connection n conn e) begun })
+            inl (record { conn = conn; made = after.made; lives = after.lives; of = after.of; begun = is_begun-append before e n conn ∙ ap (λ b. b || begins_connection n conn before e) begun })
         | inr some ↦ inr some
       ]
 

@@ -1,6 +1,6 @@
 -- The shape of a router's step.
 use Rattle.p2p_log.specs.Copies.{accepted}
-use Rattle.std.proofs.Common.{◌≡◌, ℕ, ◌+◌, Bool, true, false, cond, List, [], ◌∷◌, map, length, Option, Some, inr, refl, ap, sym, subst, ◌∙◌, arith, eq-eqb, leb-true}
+use Rattle.std.proofs.Common.{◌≡◌, ℕ, ◌+◌, Bool, true, false, cond, List, [], ◌∷◌, ◌++◌, map, length, Option, Some, inr, refl, ap, sym, subst, ◌∙◌, arith, eq-eqb, leb-true}
 use Rattle.std.specs.Prelude.{◌==◌, ◌&&◌, nat_le, nat_lt, count_by, filter, slice_get}
 use Rattle.std.specs.List.{AllByRecursion as Each}
 use Rattle.std.proofs.lemmas.Bool.{false≢true}
@@ -111,8 +111,15 @@ module _ (configs : List Config) (log : List Entry) (n : ℕ) (x : Envelope) (re
   ready_shape conn key is =
       let keys = keys_in (with_route (routes log n) (item.Ready conn key)) in
       let subs = subscribers log n in
-      quiet_step ((queue.Ready n conn, item.Answer) ∷ map (Effect.peers_put n keys) subs) subs (ap is_bare is)
-      ((refl, refl), lists_quiet keys subs) (eq-eqb n n refl, lists_near keys subs)
+      quiet_step (Effect.answer_puts (is_ended log n conn) n conn ++ map (Effect.peers_put n keys) subs) subs (ap is_bare is) (quiet keys subs (is_ended log n conn)) (near keys subs (is_ended log n conn))
+    where
+      quiet : (keys : List Key) (subs : List ℕ) (b : Bool) → Each IsQuiet (Effect.answer_puts b n conn ++ map (Effect.peers_put n keys) subs)
+      quiet keys subs true = lists_quiet keys subs
+      quiet keys subs false = ((refl, refl), lists_quiet keys subs)
+
+      near : (keys : List Key) (subs : List ℕ) (b : Bool) → Each (λ y. in_router n y.0 ≡ true) (Effect.answer_puts b n conn ++ map (Effect.peers_put n keys) subs)
+      near keys subs true = lists_near keys subs
+      near keys subs false = (eq-eqb n n refl, lists_near keys subs)
 
   release_shape : (key : Key) → x.item ≡ item.Release key → Shape configs log (act.Router n) (Effect.route_row configs log n (name_of x) (item.Release key) left)
   release_shape key is =

@@ -21,10 +21,12 @@ use Rattle.p2p_log_rules.specs.declared.row.Half.{Half}
 use Rattle.p2p_log_rules.specs.declared.row.Row.{Row}
 use Rattle.p2p_log.specs.Lines.{name_of, stands_in, live, line}
 use Rattle.p2p_log_rules.specs.Connections.{half_at}
-use Rattle.p2p_log_rules.specs.Facts.{steps_router, item_named, taken, state_from, routed_by, with_route, routes, route_to}
+use Rattle.p2p_log_rules.specs.Facts.{item_named, taken, state_from, with_route, routes_told, routes, route_to}
 use Rattle.p2p_log_rules.specs.Effect.{entry_of}
 use Rattle.p2p_log_rules.specs.Told.{told}
-use Rattle.p2p_log_rules.proofs.Routing.{routes_after, routes-append}
+use Rattle.p2p_log_rules.specs.Routed.{routed_tells}
+use Rattle.p2p_log_rules.proofs.Families.{kinds_of, are_apart}
+use Rattle.p2p_log_rules.proofs.Routing.{route_kinds, routes_told-append, routes_told-item, router_apart, router_elsewhere, routes-kept, routes-step}
 use Rattle.p2p_log.proofs.Queues.{same_queue-refl}
 use Rattle.p2p_log_rules.proofs.Recorded.{AreRecorded, AreRecorded-line}
 use Rattle.p2p_log.proofs.Each.{Each-has, Each-from_has, Each-map, Each-weaker}
@@ -97,9 +99,11 @@ module _ (configs : List Config) (log : List Entry) (n : ℕ) where
   with_one rs _ h t = h
 
   with_all : (rs : List (ℕ × ℕ)) (xs : List Item) → Each (RouteHolds configs log n) rs → Each (λ i. Tells configs log i (queue.Router n)) xs
-      → Each (RouteHolds configs log n) (routes_after rs xs)
+      → Each (RouteHolds configs log n) (routes_told n rs (flat_map (routed_tells n) xs))
   with_all rs [] h t = h
-  with_all rs (x ∷ xs) h t = with_all (with_route rs x) xs (with_one rs x h t.0) t.1
+  with_all rs (x ∷ xs) h t =
+      subst (Each (RouteHolds configs log n)) (sym (routes_told-append n rs (routed_tells n x) (flat_map (routed_tells n) xs) ∙ ap (λ r. routes_told n r (flat_map (routed_tells n) xs)) (routes_told-item n rs x)))
+      (with_all (with_route rs x) xs (with_one rs x h t.0) t.1)
 
 -- ---- what is taken, by its name
 
@@ -131,10 +135,6 @@ named_items : (log : List Entry) (xs : List Envelope) → Each (λ x. item_named
 named_items log [] h = refl
 named_items log (x ∷ xs) h = ap (λ l. l ++ flat_map (item_named log) (map name_of xs)) h.0 ∙ ap (λ r. x.item ∷ r) (named_items log xs h.1)
 
-steps_is : (n : ℕ) (a : Act) → steps_router n a ≡ true → a ≡ act.Router n
-steps_is n (act.Router m) h = ap (λ k. act.Router k) (eqb-true m n h)
-steps_is n _ h = absurd (cc)
-
 module _ (configs : List Config) (log : List Entry) (ev : Event) (r : Row) (m : Moves log r) (reach : Reach configs ev.act log r m) (tell : Each (StandTells configs log) (live log)) where
   taken_items : taken log (entry_of ev r) ≡ map (λ x. x.item) m.taken
   unfolding taken
@@ -142,27 +142,39 @@ module _ (configs : List Config) (log : List Entry) (ev : Event) (r : Row) (m : 
       ap (λ ns. flat_map (item_named log) ns) m.names
       ∙ named_items log m.taken (Each-taken (λ x. item_named log (name_of x) ≡ x.item ∷ []) (live log) m.taken (recorded_live log) (taken_stood log ev r m))
 
-  routed_cases : (n : ℕ) (b : Bool) → steps_router n ev.act ≡ b → Each (λ i. Tells configs log i (queue.Router n)) (cond b (taken log (entry_of ev r)) [])
-  routed_cases n true h =
+  -- what a router took by its step
+  taken_tell : (n : ℕ) → ev.act ≡ act.Router n → Each (λ i. Tells configs log i (queue.Router n)) (taken log (entry_of ev r))
+  taken_tell n is =
       let all : Each (StandTells configs log) m.taken = Each-taken (StandTells configs log) (live log) m.taken tell (taken_stood log ev r m) in
       let own : Each (λ x. x.queue ≡ queue.Router n) m.taken =
       Each-weaker (λ x. reads configs log ev.act x.queue ≡ true) (λ x. x.queue ≡ queue.Router n)
-      (λ x k. queue_from_same (queue.Router n) x.queue (ap (λ a. reads configs log a x.queue) (sym (steps_is n ev.act h)) ∙ k)) m.taken reach.taken
+      (λ x k. queue_from_same (queue.Router n) x.queue (ap (λ a. reads configs log a x.queue) (sym is) ∙ k)) m.taken reach.taken
       in
       subst (Each (λ i. Tells configs log i (queue.Router n))) (sym taken_items)
       (Each-map (λ i. Tells configs log i (queue.Router n)) (λ x. x.item) m.taken
       (Each-from_has (λ x. Tells configs log x.item (queue.Router n)) m.taken (λ x has.
       subst (Tells configs log x.item) (Each-has (λ y. y.queue ≡ queue.Router n) m.taken x own has)
       (Each-has (StandTells configs log) m.taken x all has))))
-  routed_cases n false h = tt
 
   pub routes_kept : RoutesHold configs log → RoutesHold configs (log ++ entry_of ev r ∷ [])
   routes_kept holds n =
-      subst (Each (RouteHolds configs (log ++ entry_of ev r ∷ []) n)) (sym (routes-append log (entry_of ev r) n))
-      (Each-weaker (RouteHolds configs log n) (RouteHolds configs (log ++ entry_of ev r ∷ []) n)
+      Each-weaker (RouteHolds configs log n) (RouteHolds configs (log ++ entry_of ev r ∷ []) n)
       (λ x h. (h.0, half_at-longer log (entry_of ev r ∷ []) n x.1 h.0 h.1, h.2))
-      (routes_after (routes log n) (routed_by n log (entry_of ev r)))
-      (with_all configs log n (routes log n) (routed_by n log (entry_of ev r)) (holds n) (routed_cases n (steps_router n ev.act) refl)))
+      (routes (log ++ entry_of ev r ∷ []) n) (by ev.act refl)
+    where
+      same : routes (log ++ entry_of ev r ∷ []) n ≡ routes log n → Each (RouteHolds configs log n) (routes (log ++ entry_of ev r ∷ []) n)
+      same is = subst (Each (RouteHolds configs log n)) (sym is) (holds n)
+
+      by : (a : Act) → ev.act ≡ a → Each (RouteHolds configs log n) (routes (log ++ entry_of ev r ∷ []) n)
+      by (act.Router k) is = by_node (k == n) refl
+        where
+          by_node : (b : Bool) → (k == n) ≡ b → Each (RouteHolds configs log n) (routes (log ++ entry_of ev r ∷ []) n)
+          by_node true here =
+              let own : ev.act ≡ act.Router n = is ∙ ap (λ j. act.Router j) (eqb-true k n here) in
+              subst (Each (RouteHolds configs log n)) (sym (routes-step log (entry_of ev r) n own))
+              (with_all configs log n (routes log n) (taken log (entry_of ev r)) (holds n) (taken_tell n own))
+          by_node false there = same (routes-kept log (entry_of ev r) n (router_elsewhere log (entry_of ev r) n k is there))
+      by a is = same (routes-kept log (entry_of ev r) n (router_apart log (entry_of ev r) n (ap (λ b. are_apart (kinds_of b) route_kinds) is)))
 
 pub routes_none : (configs : List Config) → RoutesHold configs []
 unfolding routes told state_from

@@ -28,10 +28,9 @@ use Rattle.p2p_log.specs.Sending.{Sending, sending_of, keys_sent}
 use Rattle.p2p_log.specs.Taken.{AreTaken}
 use Rattle.p2p_log.proofs.Each.{Each-weaker, count_by-none}
 use Rattle.p2p_log.proofs.Queues.{same_queue-refl}
-use Rattle.p2p_log_rules.specs.declared.row.Checked.{Checked}
 use Rattle.p2p_log_rules.specs.declared.row.Row.{Row}
 use Rattle.p2p_log_rules.specs.Admitting.{offered, keys_admitted, retry_moment}
-use Rattle.p2p_log_rules.specs.Checking.{checking_node, checked_at}
+use Rattle.p2p_log_rules.specs.Checking.{Check, check_of}
 use Rattle.p2p_log_rules.specs.Facts.{is_up, channels, capacity_in}
 use Rattle.p2p_log_rules.specs.Frames.{frame_of}
 use Rattle.p2p_log_rules.specs.Effect
@@ -39,6 +38,7 @@ use Rattle.p2p_log_rules.specs.Effect.{entry_of}
 use Rattle.p2p_log_rules.specs.Moves.{Moves}
 use Rattle.p2p_log_rules.specs.Reading.{is_read}
 use Rattle.p2p_log_rules.proofs.Moves.{one_taken, stands_first, first_has}
+use Rattle.p2p_log_rules.proofs.Touches.{in_mailbox_of}
 use Rattle.p2p_log_laws.proofs.Reaching.{reads, writes}
 use Rattle.p2p_log_laws.proofs.Carried.{IsSublist-put}
 use Rattle.p2p_log_laws.proofs.Fitting.{StandsFit, is_bare, fits, bare_there, bare_carries_none}
@@ -266,14 +266,16 @@ taking-nothing false true false accepted refused size limit n send c priority fr
 
 pub send_checked_shape : (configs : List Config) (log : List Entry) (bytes : List ℕ) (check : ℕ) (priority : Bool)
     → Shape configs log (act.SendChecked bytes check priority) (Effect.send_checked_row configs log bytes check priority)
-send_checked_shape configs log bytes check priority = by_check (checked_at log (checking_node log check) check)
+send_checked_shape configs log bytes check priority = by_check (check_of log check) refl
   where
-    by_check : (o : Option Checked) → Shape configs log (act.SendChecked bytes check priority) (Effect.spent_row configs log bytes (checking_node log check) priority o)
-    by_check None = still configs log (act.SendChecked bytes check priority) reply.Gone refl refl
-    by_check (Some c) =
-        subst (Shape configs log (act.SendChecked bytes check priority))
-        (taking-nothing (nat_lt (Effect.limit_at configs (checking_node log check)) (length bytes)) (is_up log (checking_node log check)) (nat_le (Effect.router_capacity configs log (checking_node log check)) (length (line log (queue.Router (checking_node log check)))))
-        (reply.Outcome (Outcome feedback.Ok) (checking_node log check) c.channel c.keys) (reply.Outcome Rejected (checking_node log check) c.channel c.keys) (length bytes) (Effect.limit_at configs (checking_node log check)) (checking_node log check) (length log) c.channel priority (frame_of c.channel bytes) c.keys)
-        (send_to_shape configs log (act.SendChecked bytes check priority) [] (takes_none configs log (act.SendChecked bytes check priority)) (record { by = Node (checking_node log check); channel = c.channel; priority = priority; bytes = bytes; keys = c.keys })
-        (reply.Outcome (Outcome feedback.Ok) (checking_node log check) c.channel c.keys) (reply.Outcome Rejected (checking_node log check) c.channel c.keys)
-        (record { sends = refl; refuses = refl; silent = refl; silent_refused = refl }) (checking_node log check) refl (same_queue-refl (queue.Router (checking_node log check))) (λ size limit. refl))
+    by_check : (o : Option Check) → check_of log check ≡ o → Shape configs log (act.SendChecked bytes check priority) (Effect.spent_row configs log bytes priority o)
+    by_check None is = still configs log (act.SendChecked bytes check priority) reply.Gone refl refl
+    by_check (Some c) is =
+        let a : Act = act.SendChecked bytes check priority in
+        let taken : Reply = reply.Outcome (Outcome feedback.Ok) c.node c.channel c.keys in
+        let rejected : Reply = reply.Outcome Rejected c.node c.channel c.keys in
+        subst (Shape configs log a)
+        (taking-nothing (nat_lt (Effect.limit_at configs c.node) (length bytes)) (is_up log c.node) (nat_le (Effect.router_capacity configs log c.node) (length (line log (queue.Router c.node))))
+        taken rejected (length bytes) (Effect.limit_at configs c.node) c.node (length log) c.channel priority (frame_of c.channel bytes) c.keys)
+        (send_to_shape configs log a [] (takes_none configs log a) (record { by = Node c.node; channel = c.channel; priority = priority; bytes = bytes; keys = c.keys }) taken rejected
+        (record { sends = refl; refuses = refl; silent = refl; silent_refused = refl }) c.node refl (ap (λ p. in_mailbox_of p (queue.Router c.node)) is ∙ same_queue-refl (queue.Router c.node)) (λ size limit. refl))

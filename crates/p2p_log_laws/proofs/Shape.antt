@@ -26,7 +26,7 @@ use Rattle.p2p_log_rules.specs.declared.row.Row.{Row}
 use Rattle.p2p_log.specs.Lines.{name_of, ended_item, live, line}
 use Rattle.p2p_log.specs.Copies.{carries, carries_copy, ends_copy, copies_of, copies_from}
 use Rattle.p2p_log_rules.specs.Effect.{only, entry_of, relay_queue, other_side}
-use Rattle.p2p_log_rules.specs.Reading.{reading_of, told, is_read}
+use Rattle.p2p_log_rules.specs.Reading.{reading_of, told_of_reading, is_read}
 use Rattle.p2p_log.specs.Sending.Sender.{Node, Raw}
 use Rattle.p2p_log_rules.specs.Connections.{half_at}
 use Rattle.p2p_log_rules.specs.Facts.{key_at, routes, route_to}
@@ -259,7 +259,7 @@ pub record Delivery (configs : List Config) (log : List Entry) (a : Act) (r : Re
   pub read : Envelope
   pub has : Has taken read
   pub in_queue : read.queue ≡ queue
-  pub tells : r ≡ told queue read.item
+  pub tells : r ≡ told_of_reading queue read.item
   pub ended : ends ≡ map (λ copy. end.Copy copy.0 copy.1 outcome.Delivered) (copies_of read.item)
 
 -- the copies that it accepts, and those that what it takes and what it ends carries, are those that it puts or ends

@@ -5,7 +5,7 @@ use Rattle.std.proofs.lemmas.Bool.Decides.{nat_tests}
 use Rattle.p2p_log.specs.declared.config.Config.{Config}
 use Rattle.p2p_log.specs.declared.entry.Entry.{Entry}
 use Rattle.p2p_log_rules.specs.Attempting.{Attempt, attempts_of}
-use Rattle.p2p_log_rules.proofs.Attempts.{attempts_of-late}
+use Rattle.p2p_log_rules.proofs.AttemptTellings.{attempts_of-late}
 
 abbrev pub Attempts : Type 0
 Attempts = ℕ → Option Attempt

@@ -1,6 +1,6 @@
 -- A start puts the subscription of each channel that was registered before it.
 use Rattle.std.proofs.Common.{◌≡◌, ℕ, Bool, true, false, cond, List, [], ◌∷◌, ◌++◌, map, take, refl, ap, sym, ◌∙◌}
-use Rattle.std.specs.Prelude.{◌==◌, slice_get}
+use Rattle.std.specs.Prelude.{◌==◌}
 use Rattle.std.proofs.lemmas.List.{map-append}
 use Rattle.p2p_log.specs.declared.config.Config.{Config}
 use Rattle.p2p_log.specs.declared.queue.Queue.{Queue}
@@ -10,7 +10,7 @@ use Rattle.p2p_log.specs.declared.event.Act.{Act}
 use Rattle.p2p_log.specs.declared.event.Act.TheVariants as act
 use Rattle.p2p_log.specs.declared.event.Event.{Event}
 use Rattle.p2p_log_rules.specs.Effect.{row, effect}
-use Rattle.p2p_log_rules.specs.Facts.{events_of, capacity_for, registers_at, registered}
+use Rattle.p2p_log_rules.specs.Facts.{events_of, with_capacity, registers_at, registered}
 use Rattle.p2p_log_rules.specs.Lawful.{IsLawful}
 use Rattle.p2p_log_rules.proofs.Channels.{channels-asked}
 use Rattle.p2p_log_laws.specs.Subscribing.{registered_by, registrations, subscription, EachStartSubscribes}
@@ -24,7 +24,7 @@ module _ (configs : List Config) (n : ℕ) where
   same_channel : (a : Act) → map put (registers_at configs n a) ≡ map (subscription n) (registered_by n a)
   same_channel (act.Register c m rate) = by (m == n)
     where
-      by : (b : Bool) → map put (cond b ((c, capacity_for (slice_get configs n) rate) ∷ []) []) ≡ map (subscription n) (cond b (c ∷ []) [])
+      by : (b : Bool) → map put (map (with_capacity configs n) (cond b ((c, rate) ∷ []) [])) ≡ map (subscription n) (cond b (c ∷ []) [])
       by true = refl
       by false = refl
   same_channel _ = refl

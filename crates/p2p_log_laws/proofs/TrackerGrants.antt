@@ -1,8 +1,9 @@
 -- What a step of a node's tracker grants and takes back, of a key, and what that makes of the calls.
 use Rattle.std.proofs.Common.{◌≡◌, ℕ, Bool, true, false, cond, List, [], ◌∷◌, map, Option, Some, None, refl, ap, sym, ◌∙◌, eq-eqb}
-use Rattle.std.specs.Prelude.{◌==◌, ◌&&◌, ◌||◌, count_by}
+use Rattle.std.specs.Prelude.{◌==◌, ◌&&◌, count_by}
 use Rattle.std.specs.List.{AllByRecursion as Each, list_any}
 use Rattle.std.proofs.lemmas.Bool.{false≢true}
+use Rattle.p2p_log_rules.proofs.Bools.{or_false}
 use Rattle.p2p_base.specs.declared.key.Key.{Key}
 use Rattle.p2p_address.specs.declared.ip.IpAddr.{IpAddr}
 use Rattle.p2p_address.specs.declared.peer.Ingress.{Ingress}
@@ -103,10 +104,6 @@ module _ (n : ℕ) (key : Key) (rules : Rules Key) where
 
   granted_there : (i : Item) → puts_grant n key (queue.Dialer n, i) ≡ grants_key key i
   granted_there i = ap (λ b. b && grants_key key i) (eq-eqb n n refl)
-
-  or_false : (b : Bool) → (b || false) ≡ b
-  or_false true = refl
-  or_false false = refl
 
   dial_turn : (k : Key) (at jitter : ℕ) (calls : List (Call Key)) (o : Option (Key × Ingress)) → ((g : Key × Ingress) → o ≡ Some g → (is_held key_cmp calls k ≡ false) × (is_local key_cmp rules k ≡ false) × (g.0 ≡ k))
       → Turn ((queue.Dialer n, item.Dial o) ∷ []) false (is_held key_cmp calls key) (is_held key_cmp (call.Dial k at jitter (list_any grants_peer ((queue.Dialer n, item.Dial o) ∷ [])) ∷ calls) key)
@@ -233,7 +230,7 @@ module _ (n : ℕ) (key : Key) (rules : Rules Key) where
 
     module _ (us bs : List ℕ) where
       -- blocks have ended
-      unblocked_step : Step log at jitter calls (rows.told_row log [] (puts.unblocked_puts rules n at us bs calls (call.UnblockExpired at)))
+      unblocked_step : Step log at jitter calls (rows.tracker_told_row log [] (puts.unblocked_puts rules n at us bs calls (call.UnblockExpired at)))
       unblocked_step =
           let xs : List Put = puts.unblocked_puts rules n at us bs calls (call.UnblockExpired at) in
           record {
@@ -249,7 +246,7 @@ module _ (n : ℕ) (key : Key) (rules : Rules Key) where
 
       -- the oldest message is taken
       served_step : (x : Envelope) (rest : List Envelope) → line log (queue.Tracker n) ≡ x ∷ rest
-          → Step log at jitter calls (rows.told_row log (name_of x ∷ []) (heeded (is_ended log n) (item_puts rules n at us bs calls log x.item)))
+          → Step log at jitter calls (rows.tracker_told_row log (name_of x ∷ []) (heeded (is_ended log n) (item_puts rules n at us bs calls log x.item)))
       served_step x rest first =
           let all : List Put = item_puts rules n at us bs calls log x.item in
           let xs : List Put = heeded (is_ended log n) all in
@@ -288,7 +285,7 @@ module _ (n : ℕ) (key : Key) (configs : List Config) (log : List Entry) (at ji
   due_step : Step n key rules log at jitter calls (rows.tracker_step configs log n at)
   due_step = by_due (puts.is_some_of (due_keys key_cmp rules calls at))
     where
-      by_due : (b : Bool) → Step n key rules log at jitter calls (cond b (rows.told_row log [] (puts.unblocked_puts rules n at us bs calls (call.UnblockExpired at))) (rows.served_row configs log n at (line log (queue.Tracker n))))
+      by_due : (b : Bool) → Step n key rules log at jitter calls (cond b (rows.tracker_told_row log [] (puts.unblocked_puts rules n at us bs calls (call.UnblockExpired at))) (rows.served_row configs log n at (line log (queue.Tracker n))))
       by_due true = unblocked_step n key rules log at jitter calls us bs
       by_due false = oldest_step (line log (queue.Tracker n)) refl
 

@@ -33,7 +33,7 @@ module _ (log : List Entry) (xs : List Put) where
   unblocked_stood = subst (λ l. AreTaken l (rings (left []) qs)) (filter_stays-nil (live log)) (rings_taken (left []) qs (left_apart []))
 
   -- the oldest message is taken
-  abbrev pub served_moves : (q : Queue) (x : Envelope) (rest : List Envelope) → line log q ≡ x ∷ rest → Moves log (rows.told_row log (name_of x ∷ []) xs)
+  abbrev pub served_moves : (q : Queue) (x : Envelope) (rest : List Envelope) → line log q ≡ x ∷ rest → Moves log (rows.tracker_told_row log (name_of x ∷ []) xs)
   served_moves q x rest first = record {
     taken = x ∷ [];
     ended = rings (left (name_of x ∷ [])) qs;
@@ -43,5 +43,5 @@ module _ (log : List Entry) (xs : List Put) where
   }
 
   -- nothing is
-  abbrev pub unblocked_moves : Moves log (rows.told_row log [] xs)
+  abbrev pub unblocked_moves : Moves log (rows.tracker_told_row log [] xs)
   unblocked_moves = record { taken = []; ended = rings (left []) qs; names = refl; gone = rings_gone (left []) qs; stood = unblocked_stood }

@@ -193,9 +193,9 @@ module _ (configs : List Config) (log : List Entry) (n : ℕ) (xs : List Put) (t
       (Each-weaker (IsRing n) (λ q. holds_bare q ≡ true) (λ q h. h.0) (qs log xs) ringed)
 
   -- the oldest message is taken
-  served_shape : (x : Envelope) (rest : List Envelope) → line log (queue.Tracker n) ≡ x ∷ rest → Shape configs log (act.Tracker n) (rows.told_row log (name_of x ∷ []) xs)
+  served_shape : (x : Envelope) (rest : List Envelope) → line log (queue.Tracker n) ≡ x ∷ rest → Shape configs log (act.Tracker n) (rows.tracker_told_row log (name_of x ∷ []) xs)
   served_shape x rest first =
-      let r : Row = rows.told_row log (name_of x ∷ []) xs in
+      let r : Row = rows.tracker_told_row log (name_of x ∷ []) xs in
       let m : Moves log r = served_moves log xs (queue.Tracker n) x rest first in
       record {
         moves = m;
@@ -208,9 +208,9 @@ module _ (configs : List Config) (log : List Entry) (n : ℕ) (xs : List Put) (t
       }
 
   -- blocks have ended, and nothing is taken
-  unblocked_shape : Shape configs log (act.Tracker n) (rows.told_row log [] xs)
+  unblocked_shape : Shape configs log (act.Tracker n) (rows.tracker_told_row log [] xs)
   unblocked_shape =
-      let r : Row = rows.told_row log [] xs in
+      let r : Row = rows.tracker_told_row log [] xs in
       let m : Moves log r = unblocked_moves log xs in
       record {
         moves = m;
@@ -235,7 +235,7 @@ module _ (configs : List Config) (log : List Entry) (n at : ℕ) where
   step_shape : Shape configs log (act.Tracker n) (rows.tracker_step configs log n at)
   step_shape = by_due (puts.is_some_of (due_keys key_cmp (rules_at configs n) (calls_of configs log n) at))
     where
-      by_due : (b : Bool) → Shape configs log (act.Tracker n) (cond b (rows.told_row log [] (puts.unblocked_puts (rules_at configs n) n at us bs (calls_of configs log n) (call.UnblockExpired at))) (rows.served_row configs log n at (line log (queue.Tracker n))))
+      by_due : (b : Bool) → Shape configs log (act.Tracker n) (cond b (rows.tracker_told_row log [] (puts.unblocked_puts (rules_at configs n) n at us bs (calls_of configs log n) (call.UnblockExpired at))) (rows.served_row configs log n at (line log (queue.Tracker n))))
       by_due true = unblocked_shape configs log n (puts.unblocked_puts (rules_at configs n) n at us bs (calls_of configs log n) (call.UnblockExpired at)) (unblocked_told n (rules_at configs n) at us bs (calls_of configs log n) (call.UnblockExpired at))
       by_due false = oldest_served (line log (queue.Tracker n)) refl
 

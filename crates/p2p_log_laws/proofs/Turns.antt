@@ -5,6 +5,7 @@ use Rattle.std.specs.List.{list_any}
 use Rattle.std.proofs.lemmas.Bool.{false≢true}
 use Rattle.std.proofs.lemmas.List.Folds.{list_any-append}
 use Rattle.std.proofs.lemmas.List.Sums.{sum_by-append}
+use Rattle.p2p_log_rules.proofs.Bools.{or_false, or_true}
 use Rattle.p2p_log.specs.declared.entry.Entry.{Entry}
 use Rattle.p2p_log_rules.specs.Facts.{history, history_from}
 use Rattle.p2p_log_rules.proofs.Facts.{history_from-append}
@@ -28,10 +29,6 @@ alternate_more h (t ∷ ts) more =
 
 both : (a b : Bool) → a ≡ true → b ≡ true → (a && b) ≡ true
 both a b h i = ap (λ x. x && b) h ∙ i
-
-or_false : (b : Bool) → (b || false) ≡ b
-or_false true = refl
-or_false false = refl
 
 or_parts : (a b : Bool) → (a || b) ≡ false → (a ≡ false) × (b ≡ false)
 or_parts true b h = absurd (false≢true (sym h))
@@ -87,10 +84,6 @@ module _ (g : Granting) (log : List Entry) (each : EachIsTurn g log) where
 
   stops_here : (before : List Entry) (e : Entry) → g.stops before e ≡ true → is_stopped g (before ++ e ∷ []) ≡ true
   stops_here before e stops = stopped_next before e ∙ (ap (λ b. is_stopped g before || b) stops ∙ or_true (is_stopped g before))
-    where
-      or_true : (b : Bool) → (b || true) ≡ true
-      or_true true = refl
-      or_true false = refl
 
   -- ---- one holder
 

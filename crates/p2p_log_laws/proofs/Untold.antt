@@ -1,7 +1,7 @@
 -- A handshake that has not begun took nothing.
-use Rattle.std.proofs.Common.{◌≡◌, ℕ, ◌+◌, ◌≤◌, Bool, true, false, cond, List, [], ◌∷◌, ◌++◌, length, refl, ap, ◌∙◌, arith, eqb-true, length-append}
-use Rattle.std.specs.Prelude.{◌==◌, ◌&&◌, ◌||◌}
+use Rattle.std.proofs.Common.{◌≡◌, ℕ, ◌+◌, ◌≤◌, Bool, true, false, cond, List, [], ◌∷◌, ◌++◌, length, refl, ap, ◌∙◌, arith, length-append, ◌⊎◌, inl, inr}
 use Rattle.std.proofs.lemmas.Bool.{and_parts}
+use Rattle.p2p_log_rules.proofs.Bools.{and_false}
 use Rattle.p2p_log.specs.declared.config.Config.{Config}
 use Rattle.p2p_log.specs.declared.queue.Queue.TheVariants as queue
 use Rattle.p2p_log.specs.declared.item.Item.{Item}
@@ -16,12 +16,12 @@ use Rattle.p2p_log_rules.specs.declared.row.Row.{Row}
 use Rattle.p2p_log_rules.specs.Dropping.{handshake_drops, handshake_step_row}
 use Rattle.p2p_log_rules.specs.Effect.{effect, entry_of, row}
 use Rattle.p2p_log_rules.specs.Facts.{taken}
-use Rattle.p2p_log_rules.specs.Handshakes.{is_handshaking, is_finished, peer_at, steps_handshake, has_taken}
+use Rattle.p2p_log_rules.specs.Handshakes.{is_handshaking, is_finished, peer_at, has_taken}
 use Rattle.p2p_log_rules.specs.Handshaking.{handshake_deadline, is_due, handshake_turn}
 use Rattle.p2p_log_rules.specs.Lawful.{IsLawful}
 use Rattle.p2p_log_rules.specs.Rows.{only, is_spawner_full}
-use Rattle.p2p_log_rules.proofs.Handshakes.{none_later, has_taken-append, has_taken-none}
-use Rattle.p2p_log_laws.proofs.Plain.{and_false}
+use Rattle.p2p_log_rules.proofs.Handshakes.{none_later}
+use Rattle.p2p_log_rules.proofs.HandshakeTook.{IsOther, step_or_other, has_taken-other, has_taken-unsuch, has_taken-none}
 use Rattle.p2p_log_laws.proofs.Prefixes.{at_end}
 use Rattle.p2p_log_laws.proofs.Shape.{no_moves}
 use Rattle.p2p_log_laws.proofs.Weighing.{taken_items}
@@ -43,32 +43,20 @@ module _ (test : List Item → Bool) (none : test [] ≡ false) (configs : List 
   took_none log ev r is =
       ap (λ s. test (taken log (entry_of ev s))) is ∙ (ap test (taken_items log ev (only reply.Gone) (no_moves log (only reply.Gone) refl refl)) ∙ none)
 
-  now_none : (log : List Entry) (at seed : ℕ) (a : Act) → length log ≤ name
-      → (steps_handshake n name a && test (taken log (entry_of (record { at = at; seed = seed; act = a }) (row configs log at seed a)))) ≡ false
+  now_none : (log : List Entry) (ev : Event) → ev.act ≡ act.Handshake name n → length log ≤ name → test (taken log (entry_of ev (row configs log ev.at ev.seed ev.act))) ≡ false
   unfolding row
-  now_none log at seed (act.Handshake k m) past = by ((m == n) && (k == name)) refl
-    where
-      took : Bool
-      took = test (taken log (entry_of (record { at = at; seed = seed; act = act.Handshake k m }) (handshake_step_row configs log k m at)))
-
-      by : (b : Bool) → ((m == n) && (k == name)) ≡ b → (((m == n) && (k == name)) && took) ≡ false
-      by false other = ap (λ b. b && took) other
-      by true same =
-          let both = and_parts (m == n) (k == name) same in
-          let row_is : handshake_step_row configs log k m at ≡ only reply.Gone =
-          ap (λ i. handshake_step_row configs log k i at) (eqb-true m n both.0) ∙ (ap (λ i. handshake_step_row configs log i n at) (eqb-true k name both.1) ∙ gone_row log at (none_later log n name past))
-          in
-          ap (λ b. ((m == n) && (k == name)) && b) (took_none log (record { at = at; seed = seed; act = act.Handshake k m }) (handshake_step_row configs log k m at) row_is) ∙ and_false ((m == n) && (k == name))
-  now_none log at seed _ past = refl
+  now_none log ev acts late = took_none log ev (row configs log ev.at ev.seed ev.act) (ap (row configs log ev.at ev.seed) acts ∙ gone_row log ev.at (none_later log n name late))
 
   pub untold_more : (log : List Entry) (ev : Event) → Untold log → Untold (log ++ effect configs log ev ∷ [])
   unfolding effect
   untold_more log ev untold past =
       let e : Entry = entry_of ev (row configs log ev.at ev.seed ev.act) in
       let longer : length (log ++ e ∷ []) ≡ length log + 1 = length-append log (e ∷ []) in
-      let late : length log ≤ name = omega (arith, past, longer) in
-      has_taken-append test log e n name
-      ∙ (ap (λ b. b || has_taken test log n name) (now_none log ev.at ev.seed ev.act late) ∙ untold late)
+      by (omega (arith, past, longer)) (step_or_other n name ev.act)
+    where
+      by : length log ≤ name → (ev.act ≡ act.Handshake name n) ⊎ IsOther n name ev.act → has_taken test (log ++ entry_of ev (row configs log ev.at ev.seed ev.act) ∷ []) n name ≡ false
+      by late (inl acts) = has_taken-unsuch test log (entry_of ev (row configs log ev.at ev.seed ev.act)) n name (now_none log ev acts late) ∙ untold late
+      by late (inr other) = has_taken-other test log (entry_of ev (row configs log ev.at ev.seed ev.act)) n name other ∙ untold late
 
   pub untold : (script : List Event) (log : List Entry) → IsLawful configs script log → Untold log
   untold script log lawful = at_end configs Untold untold_first untold_more script log lawful

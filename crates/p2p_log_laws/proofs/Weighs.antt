@@ -5,6 +5,7 @@ use Rattle.std.specs.List.{AllByRecursion as Each, list_any}
 use Rattle.std.proofs.lemmas.Bool.{false≢true}
 use Rattle.std.proofs.lemmas.Bool.Decides.{nat_tests}
 use Rattle.std.proofs.lemmas.List.Sums.{sum_by-cons}
+use Rattle.p2p_log_rules.proofs.Bools.{and_true}
 use Rattle.p2p_base.specs.declared.key.Key.{Key}
 use Rattle.p2p_tracker_calls.specs.declared.call.Call.{Call}
 use Rattle.p2p_tracker_calls.specs.Blocks.{is_local}
@@ -25,11 +26,11 @@ use Rattle.p2p_log_rules.specs.declared.row.Row.{Row}
 use Rattle.p2p_log_rules.specs.Attempting.{Attempt, dial_rules_at, attempts_of}
 use Rattle.p2p_log_rules.specs.Told.{act_tells, tells, told}
 use Rattle.p2p_log_rules.proofs.Attempts.{attempt_told, attempts_by}
-use Rattle.p2p_log_rules.specs.Connections.{steps_sender, steps_receiver, is_end, ends_connection, is_ended, live_connection}
+use Rattle.p2p_log_rules.specs.Connections.{is_end, ends_connection, is_ended, live_connection}
 use Rattle.p2p_log_rules.specs.Dropping.{LinkEnd, other_side, dropping}
 use Rattle.p2p_log_rules.specs.Effect.{entry_of}
 use Rattle.p2p_log_rules.proofs.Attempts.{attempts_of-append}
-use Rattle.p2p_log_rules.proofs.Connections.{ends_none-reply, is_ended-append}
+use Rattle.p2p_log_rules.proofs.Connections.{steps_sender, steps_receiver, EndsNone, ends_is, ends_untold, ends_none-reply, is_ended-append}
 use Rattle.p2p_log_rules.proofs.Spawning.{connections_of-acted}
 use Rattle.p2p_log_rules.specs.Facts.{taken, with_begun}
 use Rattle.p2p_log_rules.specs.Moves.{Moves}
@@ -112,13 +113,13 @@ module _ (configs : List Config) (n : ℕ) (key : Key) (log : List Entry) where
         }
 
     -- one that makes and ends no connection
-    pub moved : steps_spawner n ev.act ≡ false → ((k : ℕ) → ends_connection n k e ≡ false) → (m : Moves log r) → (weight (puts_grant n key) m.taken + weight (puts_grant n key) m.ended) + held_by_attempts configs n key log
+    pub moved : steps_spawner n ev.act ≡ false → ((k : ℕ) → ends_connection n k log e ≡ false) → (m : Moves log r) → (weight (puts_grant n key) m.taken + weight (puts_grant n key) m.ended) + held_by_attempts configs n key log
         ≡ held_by_attempts configs n key (log ++ e ∷ []) + (count_by (puts_grant n key) r.puts + count_by (puts_release n key) r.puts)
         → weight (puts_release n key) m.taken ≡ 0 → weight (puts_release n key) m.ended ≡ 0 → Weighs ev r
     moved makes lives m held taken ended = let kept = connections_kept n key log e makes lives in passed m (omega (arith, held, kept)) taken ended
 
     -- and moves none of them
-    pub plain_weighs : steps_spawner n ev.act ≡ false → ((k : ℕ) → ends_connection n k e ≡ false) → (m : Moves log r) → IsPlain n key log r m → ((k : ℕ) → is_attempt_of key (attempts_by configs n log e f k) ≡ is_attempt_of key (f k)) → Weighs ev r
+    pub plain_weighs : steps_spawner n ev.act ≡ false → ((k : ℕ) → ends_connection n k log e ≡ false) → (m : Moves log r) → IsPlain n key log r m → ((k : ℕ) → is_attempt_of key (attempts_by configs n log e f k) ≡ is_attempt_of key (f k)) → Weighs ev r
     plain_weighs makes lives m plain kept =
         let held = holds_kept configs n key log e kept in
         let taken = no_grants_stand n key m.taken plain.taken in
@@ -132,11 +133,10 @@ module _ (configs : List Config) (n : ℕ) (key : Key) (log : List Entry) where
 
   module _ (at seed : ℕ) where
     -- one that reaches no queue in which a grant or a release may wait
-    pub other : (a : Act) (r : Row) → Shape configs log a r → Away n (reads configs log a) → Away n (writes configs log a) → steps_tracker n a ≡ false → steps_spawner n a ≡ false
-        → ((k : ℕ) → ends_connection n k (entry_of (event at seed a) r) ≡ false)
+    pub other : (a : Act) (r : Row) → Shape configs log a r → Away n (reads configs log a) → Away n (writes configs log a) → steps_tracker n a ≡ false → steps_spawner n a ≡ false → EndsNone a
         → ((k : ℕ) → is_attempt_of key (attempts_by configs n log (entry_of (event at seed a) r) f k) ≡ is_attempt_of key (f k)) → Weighs (event at seed a) r
-    other a r shape read written still makes lives kept =
-        plain_weighs (event at seed a) r still makes lives shape.moves (plain_out_of_reach n key configs a log r shape.moves shape.reach read written) kept
+    other a r shape read written still makes none kept =
+        plain_weighs (event at seed a) r still makes (λ k. ends_untold log (entry_of (event at seed a) r) n k a refl none) shape.moves (plain_out_of_reach n key configs a log r shape.moves shape.reach read written) kept
 
     -- ---- a step of a half
 
@@ -153,7 +153,7 @@ module _ (configs : List Config) (n : ℕ) (key : Key) (log : List Entry) where
         in
         let held = holds_kept configs n key log e kept in
         let ended : held_by_connections n key (log ++ e ∷ []) + one (is_connection_of key (live_connection log n conn)) ≡ held_by_connections n key log =
-        connections_ended n key log e makes conn (live_early log n conn last.half last.lived) (λ k. ap (λ b. b && is_end r.reply) (steps k) ∙ (ap (λ b. (conn == k) && b) last.ends ∙ and_true (conn == k)))
+        connections_ended n key log e makes conn (live_early log n conn last.half last.lived) (λ k. ends_is log e n k ∙ (ap (λ b. b && is_end r.reply) (steps k) ∙ (ap (λ b. (conn == k) && b) last.ends ∙ and_true (conn == k))))
         in
         let holder : one (is_connection_of key (live_connection log n conn)) ≡ one (peer.0 == key.0) = ap one (live_holds n key log conn last.half last.lived) in
         let taken_grants = no_grants_stand n key m.taken taken_plain in
@@ -163,10 +163,6 @@ module _ (configs : List Config) (n : ℕ) (key : Key) (log : List Entry) where
         passed (event at seed a) r still m (omega (arith, held, ended, holder, taken_grants, ended_grants, granted, given_back))
         (no_releases_stand n key m.taken taken_plain) (no_releases_stand n key m.ended aside)
       where
-        and_true : (b : Bool) → (b && true) ≡ b
-        and_true true = refl
-        and_true false = refl
-
         no_grants_released : (k : Key) → count_by (puts_grant n key) (released n k) ≡ 0
         no_grants_released k = count_by-none (puts_grant n key) (released n k) (refl, (refl, tt))
 
@@ -185,7 +181,7 @@ module _ (configs : List Config) (n : ℕ) (key : Key) (log : List Entry) where
         → ((k : ℕ) → is_attempt_of key (attempts_by configs n log (entry_of (event at seed a) r) f k) ≡ is_attempt_of key (f k)) → Weighs (event at seed a) r
     step_weighs a m conn r shape read aside still makes steps step kept = by step
       where
-        plain : ((k : ℕ) → ends_connection n k (entry_of (event at seed a) r) ≡ false) → Each (Plain n key) r.puts → Weighs (event at seed a) r
+        plain : ((k : ℕ) → ends_connection n k log (entry_of (event at seed a) r) ≡ false) → Each (Plain n key) r.puts → Weighs (event at seed a) r
         plain lives puts =
             plain_weighs (event at seed a) r still makes lives shape.moves
             (record {
@@ -199,12 +195,12 @@ module _ (configs : List Config) (n : ℕ) (key : Key) (log : List Entry) where
         by_node true same last =
             last_weighs a conn r shape read aside still makes (λ k. steps k ∙ ap (λ b. b && (conn == k)) same) (subst (λ i. IsLast log i conn r) (eqb-true m n same) last) kept
         by_node false differ last =
-            plain (λ k. ap (λ b. b && is_end r.reply) (steps k ∙ ap (λ b. b && (conn == k)) differ))
+            plain (λ k. ends_is log (entry_of (event at seed a) r) n k ∙ ap (λ b. b && is_end r.reply) (steps k ∙ ap (λ b. b && (conn == k)) differ))
             (subst (Each (Plain n key)) (sym last.puts)
             (plain_aside n key (queue.Router m) (item.Release last.half.peer) (refl, refl), (plain_aside n key (queue.Tracker m) (item.Release last.half.peer) (refl, ap (λ b. b && true) (other_way m n differ)), tt)))
 
         by : IsStep (Plain n key) log m conn r → Weighs (event at seed a) r
-        by (inl goes) = plain (λ k. ends_none-reply (entry_of (event at seed a) r) n k goes.0) goes.1
+        by (inl goes) = plain (λ k. ends_none-reply log (entry_of (event at seed a) r) n k goes.0) goes.1
         by (inr last) = by_node (m == n) refl last
 
     -- ---- a row that drops the end of a link too
@@ -236,7 +232,10 @@ module _ (configs : List Config) (n : ℕ) (key : Key) (log : List Entry) where
         connections_now =
             counted (λ k. is_connection_of key (live_connection (log ++ entry_of ev s ∷ []) n k)) (λ k. is_connection_of key (live_connection (log ++ entry_of ev r ∷ []) n k))
             (λ k.
-            let over : is_ended (log ++ entry_of ev s ∷ []) n k ≡ is_ended (log ++ entry_of ev r ∷ []) n k = is_ended-append log (entry_of ev s) n k ∙ sym (is_ended-append log (entry_of ev r) n k) in
+            let over : is_ended (log ++ entry_of ev s ∷ []) n k ≡ is_ended (log ++ entry_of ev r ∷ []) n k =
+            is_ended-append log (entry_of ev s) n k
+            ∙ (ap (λ b. is_ended log n k || b) (ends_is log (entry_of ev s) n k ∙ sym (ends_is log (entry_of ev r) n k)) ∙ sym (is_ended-append log (entry_of ev r) n k))
+            in
             let made : connections_of (log ++ entry_of ev s ∷ []) n k ≡ connections_of (log ++ entry_of ev r ∷ []) n k =
             connections_of-acted log (entry_of ev s) n (steps_spawner n ev.act) refl k
             ∙ (ap (λ items. cond (steps_spawner n ev.act) (with_begun (spawned_of items) (length log) (connections_of log n) k) (connections_of log n k)) took

@@ -29,7 +29,7 @@ use Rattle.p2p_log.proofs.Queues.{same_queue-refl}
 use Rattle.p2p_log.proofs.Taken.{Has-taken}
 use Rattle.p2p_log_rules.specs.declared.row.Half.{Half}
 use Rattle.p2p_log_rules.specs.declared.row.Row.{Row}
-use Rattle.p2p_log_rules.specs.Connections.{half_at, steps_sender, steps_receiver, is_end, ends_connection, is_begun, is_ended, live_connection}
+use Rattle.p2p_log_rules.specs.Connections.{half_at, is_end, ends_connection, is_begun, is_ended, live_connection}
 use Rattle.p2p_log_rules.specs.Effect.{effect, entry_of, row}
 use Rattle.p2p_log_rules.specs.Facts.{taken, state_from}
 use Rattle.p2p_log_rules.specs.Lawful.{IsLawful}
@@ -38,7 +38,7 @@ use Rattle.p2p_log_rules.specs.Spawning.{Spawned, connections_of}
 use Rattle.p2p_log_rules.specs.Told.{told as all_told}
 use Rattle.p2p_log_rules.specs.Tracking.{key_cmp, rules_at, steps_tracker, grants_peer, calls_of}
 use Rattle.p2p_log_rules.proofs.Calls.{step_calls, calls_of-append}
-use Rattle.p2p_log_rules.proofs.Connections.{half_parts, is_live}
+use Rattle.p2p_log_rules.proofs.Connections.{half_act, end_of, half_parts, is_live}
 use Rattle.p2p_log_rules.proofs.Lawful.{IsLawful-append}
 use Rattle.p2p_log_rules.proofs.Moves.{taken_stood}
 use Rattle.p2p_log_laws.specs.Grants.{one, Granting, is_held, is_stopped, Hands, IsTurn, turn_by, held_after}
@@ -117,14 +117,9 @@ take_front (x ∷ xs) ys = ap (λ l. x ∷ l) (take_front xs ys)
 not_later : (a b c d : ℕ) → ((nat_lt a c) || ((a == c) && nat_lt b d)) ≡ true → c < a → ⊥
 not_later a b c d h less = grind (arith, nat_tests)
 
-no_tracker : (n conn : ℕ) (a : Act) → (steps_sender n conn a || steps_receiver n conn a) ≡ true → steps_tracker n a ≡ false
-no_tracker n conn (act.SendStep c m) h = refl
-no_tracker n conn (act.RecvStep c m) h = refl
-no_tracker n conn _ h = absurd (cc)
-
-pub tracker_ends_none : (n conn : ℕ) (a : Act) → steps_tracker n a ≡ true → (steps_sender n conn a || steps_receiver n conn a) ≡ false
-tracker_ends_none n conn (act.Tracker m) h = refl
-tracker_ends_none n conn _ h = absurd (cc)
+no_tracker : (n conn : ℕ) (sends : Bool) (a : Act) → a ≡ half_act sends conn n → steps_tracker n a ≡ false
+no_tracker n conn true a acts = ap (steps_tracker n) acts
+no_tracker n conn false a acts = ap (steps_tracker n) acts
 
 -- ---- what holds
 
@@ -281,7 +276,7 @@ module _ (configs : List Config) (n : ℕ) where
             ∙ ap (λ b. held_after (is_held (granting configs n key) before) (cond b (false ∷ []) [])) frees
 
     -- where a connection of the key ends, its release waits
-    pub ends_waits : (conn : ℕ) (c : Spawned) → live_connection before n conn ≡ Some c → ends_connection n conn e ≡ true → 1 ≤ waits c.key log
+    pub ends_waits : (conn : ℕ) (c : Spawned) → live_connection before n conn ≡ Some c → ends_connection n conn before e ≡ true → 1 ≤ waits c.key log
     unfolding effect
     ends_waits conn c lives ends =
         let over = end_row_is configs before ev n conn told.standing.fitting ends in
@@ -292,9 +287,9 @@ module _ (configs : List Config) (n : ℕ) where
         let is : puts_release n c.key (queue.Tracker n, item.Release over.half.peer) ≡ true =
         ap (λ b. b && (over.half.peer.0 == c.key.0)) (same_queue-refl (queue.Tracker n)) ∙ eq-eqb over.half.peer.0 c.key.0 (ap (λ (k : Key). k.0) (sym peer))
         in
-        let steps = (and_parts (steps_sender n conn ev.act || steps_receiver n conn ev.act) (is_end r.reply) ends).0 in
+        let end = end_of before e n conn ends in
         waits_now c.key (count_has (puts_release n c.key) r.puts (queue.Tracker n, item.Release over.half.peer) put is)
-        (ap (λ b. b && list_any (releases_key c.key) (taken before e)) (no_tracker n conn ev.act steps))
+        (ap (λ b. b && list_any (releases_key c.key) (taken before e)) (no_tracker n conn end.sends ev.act end.acts))
 
     -- ---- what is taken
 

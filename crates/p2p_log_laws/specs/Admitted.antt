@@ -7,9 +7,8 @@ use Rattle.p2p_log.specs.declared.event.Act.TheVariants as act
 use Rattle.p2p_log.specs.declared.event.Recipients.{Recipients}
 use Rattle.p2p_log.specs.Copies.{accepted}
 use Rattle.p2p_log.specs.Lines.{line}
-use Rattle.p2p_log_rules.specs.declared.row.Checked.{Checked}
 use Rattle.p2p_log_rules.specs.Admitting.{offered, keys_admitted}
-use Rattle.p2p_log_rules.specs.Checking.{checking_node, checked_at}
+use Rattle.p2p_log_rules.specs.Checking.{Check, check_of}
 use Rattle.p2p_log_rules.specs.Effect.{limit_at, router_capacity}
 use Rattle.p2p_log_rules.specs.Facts.{channels, capacity_in}
 
@@ -33,15 +32,15 @@ EachIsAdmitted configs log =
 
 -- a check that waits for its message is the entry of its name, and has exactly those of the keys that it was asked for that its
 -- channel's quota admitted at its moment, in their order
-pub record IsCheckOf (log : List Entry) (n name : ℕ) (c : Checked) : Type 0 where
+pub record IsCheckOf (log : List Entry) (name : ℕ) (c : Check) : Type 0 where
   pub entry : Entry
   pub here : slice_get log name ≡ Some entry
   pub to : Recipients
-  pub asks : entry.event.act ≡ act.Check c.channel n to
-  pub admitted : c.keys ≡ keys_admitted (take name log) n c.channel entry.event.at (offered (take name log) n c.channel to)
+  pub asks : entry.event.act ≡ act.Check c.channel c.node to
+  pub admitted : c.keys ≡ keys_admitted (take name log) c.node c.channel entry.event.at (offered (take name log) c.node c.channel to)
 
 abbrev pub ChecksAreAdmitted : List Entry → Type 0
-ChecksAreAdmitted log = (n name : ℕ) (c : Checked) → checked_at log n name ≡ Some c → IsCheckOf log n name c
+ChecksAreAdmitted log = (name : ℕ) (c : Check) → check_of log name ≡ Some c → IsCheckOf log name c
 
 -- a message to those whom a check admitted is accepted for exactly these, or for nobody where it is turned away, or where the check
 -- waits no more
@@ -49,9 +48,9 @@ abbrev pub EachIsChecked : List Config → List Entry → Type 0
 EachIsChecked configs log =
     (k check : ℕ) (e : Entry) (bytes : List ℕ) (priority : Bool)
     → slice_get log k ≡ Some e → e.event.act ≡ act.SendChecked bytes check priority
-    → ((c : Checked) × (checked_at (take k log) (checking_node (take k log) check) check ≡ Some c)
-    × ((accepted log k ≡ c.keys) ⊎ ((accepted log k ≡ []) × IsTurnedAway configs (take k log) (checking_node (take k log) check) bytes)))
-    ⊎ ((accepted log k ≡ []) × (checked_at (take k log) (checking_node (take k log) check) check ≡ None))
+    → ((c : Check) × (check_of (take k log) check ≡ Some c)
+    × ((accepted log k ≡ c.keys) ⊎ ((accepted log k ≡ []) × IsTurnedAway configs (take k log) c.node bytes)))
+    ⊎ ((accepted log k ≡ []) × (check_of (take k log) check ≡ None))
 
 -- no two messages are accepted for what one check admitted
 abbrev pub ChecksAreSpentOnce : List Entry → Type 0

@@ -75,7 +75,7 @@ pub record IsEndedWith (before : List Entry) (e : Entry) (copy : ℕ × ℕ) : T
   pub conn : ℕ
   pub half : Half
   pub lived : live_half before node conn ≡ Some half
-  pub ends : ends_connection node conn e ≡ true
+  pub ends : ends_connection node conn before e ≡ true
   pub from : Queue
   pub with : IsAmong (queues_with node conn half) from
   pub place : ℕ

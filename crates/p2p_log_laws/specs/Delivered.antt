@@ -16,7 +16,7 @@ use Rattle.p2p_log.specs.Lines.{name_of, line}
 use Rattle.p2p_log.specs.Copies.{copies_of}
 use Rattle.p2p_log_rules.specs.Connections.{half_at}
 use Rattle.p2p_log_rules.specs.Facts.{key_at}
-use Rattle.p2p_log_rules.specs.Reading.{reading_of, given, told, is_read}
+use Rattle.p2p_log_rules.specs.Reading.{reading_of, given, told_of_reading, is_read}
 use Rattle.p2p_log.specs.Sending.{Sender, sending_at}
 use Rattle.p2p_log.specs.Sending.Sender.{Node, Raw}
 
@@ -68,7 +68,7 @@ pub record IsRead (configs : List Config) (before : List Entry) (e : Entry) (cop
   pub stood : line before queue ≡ oldest ∷ later
   pub takes : e.takes ≡ name_of oldest ∷ []
   pub carried : copies_of oldest.item ≡ copy ∷ []
-  pub tells : e.reply ≡ told queue oldest.item
+  pub tells : e.reply ≡ told_of_reading queue oldest.item
   pub says : is_read e.reply ≡ true
   pub ended : e.ends ≡ end.Copy copy.0 copy.1 outcome.Delivered ∷ []
 

@@ -63,19 +63,19 @@ pub record ShowsEnd (configs : List Config) (before : List Entry) (e : Entry) (n
 -- each entry that ends a connection shows why, as its reply says
 abbrev pub EachEndShows : List Config → List Entry → Type 0
 EachEndShows configs log =
-    (i n conn : ℕ) (e : Entry) → slice_get log i ≡ Some e → ends_connection n conn e ≡ true
+    (i n conn : ℕ) (e : Entry) → slice_get log i ≡ Some e → ends_connection n conn (take i log) e ≡ true
     → (why : Ended) × (e.reply ≡ reply.Ended why) × ShowsEnd configs (take i log) e n conn why
 
 -- an entry ends one connection at most
 abbrev pub EachEndsOne : List Entry → Type 0
 EachEndsOne log =
-    (i n m c d : ℕ) (e : Entry) → slice_get log i ≡ Some e → ends_connection n c e ≡ true → ends_connection m d e ≡ true
+    (i n m c d : ℕ) (e : Entry) → slice_get log i ≡ Some e → ends_connection n c (take i log) e ≡ true → ends_connection m d (take i log) e ≡ true
     → (n ≡ m) × (c ≡ d)
 
 -- and a connection ends at one entry at most
 abbrev pub EachIsEndedOnce : List Entry → Type 0
 EachIsEndedOnce log =
-    (i j n conn : ℕ) (e f : Entry) → slice_get log i ≡ Some e → slice_get log j ≡ Some f → ends_connection n conn e ≡ true → ends_connection n conn f ≡ true
+    (i j n conn : ℕ) (e f : Entry) → slice_get log i ≡ Some e → slice_get log j ≡ Some f → ends_connection n conn (take i log) e ≡ true → ends_connection n conn (take j log) f ≡ true
     → i ≡ j
 
 -- ---- what routers are told of them
@@ -84,7 +84,7 @@ EachIsEndedOnce log =
 pub record IsReleaseOf (log : List Entry) (n conn : ℕ) (x : Envelope) : Type 0 where
   pub entry : Entry
   pub at : slice_get log x.entry ≡ Some entry
-  pub ends : ends_connection n conn entry ≡ true
+  pub ends : ends_connection n conn (take x.entry log) entry ≡ true
   pub first : x.place ≡ 0
 
 -- of two connections of a node with one key the release of the older is routed before the `ready` of the newer: none is routed late

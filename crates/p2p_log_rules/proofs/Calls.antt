@@ -1,5 +1,5 @@
 -- The calls of the directory of a node's tracker, and who subscribed, after one more entry.
-use Rattle.std.proofs.Common.{◌≡◌, ℕ, Bool, true, false, cond, List, [], ◌∷◌, ◌++◌, map, reverse, length, refl, ap, ◌∙◌, append_assoc, append-nil, Option, Some, None}
+use Rattle.std.proofs.Common.{◌≡◌, ℕ, Bool, true, false, cond, List, [], ◌∷◌, ◌++◌, map, reverse, refl, ap, ◌∙◌, append_assoc, append-nil, Option, Some, None}
 use Rattle.std.specs.Prelude.{◌==◌, flat_map}
 use Rattle.std.specs.List.{list_any}
 use Rattle.std.proofs.lemmas.List.{reverse-append}
@@ -24,11 +24,13 @@ use Rattle.p2p_log.specs.declared.event.Act.TheVariants as act
 use Rattle.p2p_log_rules.specs.Taking.{taken, state_from}
 use Rattle.p2p_log_rules.specs.Tellings.{Telling}
 use Rattle.p2p_log_rules.specs.Tellings as telling
-use Rattle.p2p_log_rules.specs.Told.{act_tells, tells, told}
+use Rattle.p2p_log_rules.specs.Told.{tells, told}
 use Rattle.p2p_log_rules.specs.Tracked.{asked_by, question_of, grants_peer, asked_tells, served_tells, called_tells, wanted_tells, subscriber_tells, tracker_tells}
 use Rattle.p2p_log_rules.specs.Tracking.{rules_at, steps_tracker, called, calls_of, wants_sets, update_subscriptions, wants_blocks, blocked_subscriptions}
-use Rattle.p2p_log_rules.proofs.Families.{kind, kinds_of, has, are_apart, untold_of}
-use Rattle.p2p_log_rules.proofs.Tellings.{or_left, or_right, told-append}
+use Rattle.p2p_log_rules.proofs.Acted.{tells_as, nothing_of, collected-append}
+use Rattle.p2p_log_rules.proofs.Families.{kind, kinds_of, has, are_apart}
+use Rattle.p2p_log_rules.proofs.Ignoring.{flat_map-none}
+use Rattle.p2p_log_rules.proofs.Tellings.{told-append}
 
 -- ---- what an entry adds to the calls, the newest first
 
@@ -144,35 +146,26 @@ module _ (cooldown n : ℕ) where
   abbrev call_kinds : List ℕ
   call_kinds = 60 ∷ 61 ∷ 62 ∷ 63 ∷ 64 ∷ 65 ∷ 66 ∷ 67 ∷ []
 
-  none_called : (ts : List Telling) → list_any (λ t. has call_kinds (kind t)) ts ≡ false → flat_map (called cooldown n) ts ≡ []
-  none_called [] h = refl
-  none_called (t ∷ ts) h =
-      ap (λ l. l ++ flat_map (called cooldown n) ts) (by t (or_left (has call_kinds (kind t)) (list_any (λ u. has call_kinds (kind u)) ts) h))
-      ∙ none_called ts (or_right (has call_kinds (kind t)) (list_any (λ u. has call_kinds (kind u)) ts) h)
-    where
-      by : (t : Telling) → has call_kinds (kind t) ≡ false → called cooldown n t ≡ []
-      by (telling.blocks_ended m at) h = cc
-      by (telling.set_asked m index primary secondary) h = cc
-      by (telling.addresses_asked m peers) h = cc
-      by (telling.block_asked m at key) h = cc
-      by (telling.connection_heard m at conn key) h = cc
-      by (telling.dial_weighed m at seed key granted) h = cc
-      by (telling.listen_weighed m at seed key granted) h = cc
-      by (telling.release_heard m key) h = cc
-      by _ h = refl
+  of_calls : (t : Telling) → has call_kinds (kind t) ≡ false → called cooldown n t ≡ []
+  of_calls (telling.blocks_ended m at) h = cc
+  of_calls (telling.set_asked m index primary secondary) h = cc
+  of_calls (telling.addresses_asked m peers) h = cc
+  of_calls (telling.block_asked m at key) h = cc
+  of_calls (telling.connection_heard m at conn key) h = cc
+  of_calls (telling.dial_weighed m at seed key granted) h = cc
+  of_calls (telling.listen_weighed m at seed key granted) h = cc
+  of_calls (telling.release_heard m key) h = cc
+  of_calls _ h = refl
 
   -- what an entry makes of the calls
   called_by : (ts : List Telling) (log : List Entry) (e : Entry) (calls : List (Call Key)) → after cooldown n (tells ts log e) calls
       ≡ cond (steps_tracker n e.event.act) (step_calls log e.reply (taken log e) e.event.at (jitter_of cooldown e.event.seed) (list_any grants_peer e.puts) calls) calls
-  unfolding tells
   called_by ts log e calls = by e.event.act refl
     where
       by : (a : Act) → e.event.act ≡ a → after cooldown n (tells ts log e) calls
           ≡ cond (steps_tracker n a) (step_calls log e.reply (taken log e) e.event.at (jitter_of cooldown e.event.seed) (list_any grants_peer e.puts) calls) calls
-      by (act.Tracker m) is =
-          ap (λ a. after cooldown n (act_tells ts log (length log) e.event.at e.event.seed e.reply (taken log e) e.puts a) calls) is
-          ∙ tracker_told log m e.event.at e.event.seed e.reply (taken log e) e.puts calls
-      by a is = ap (λ l. reverse l ++ calls) (none_called (tells ts log e) (untold_of (λ t. has call_kinds (kind t)) call_kinds (λ t h. h) ts log e (ap (λ b. are_apart (kinds_of b) call_kinds) is)))
+      by (act.Tracker m) is = ap (λ us. after cooldown n us calls) (tells_as ts log e (act.Tracker m) is) ∙ tracker_told log m e.event.at e.event.seed e.reply (taken log e) e.puts calls
+      by a is = ap (λ l. reverse l ++ calls) (nothing_of call_kinds (called cooldown n) of_calls ts log e (ap (λ b. are_apart (kinds_of b) call_kinds) is))
 
 pub calls_of-append : (configs : List Config) (log : List Entry) (e : Entry) (n : ℕ) → calls_of configs (log ++ e ∷ []) n ≡ calls_by configs n log e (calls_of configs log n)
 unfolding calls_of
@@ -212,10 +205,7 @@ questions = 68 ∷ 69 ∷ []
 -- what a step of a tracker tells of its calls is of no subscription
 module _ (f : Telling → List ℕ) (others : (t : Telling) → has questions (kind t) ≡ false → f t ≡ []) where
   none_wanted : (ts : List Telling) → list_any (λ t. has questions (kind t)) ts ≡ false → flat_map f ts ≡ []
-  none_wanted [] h = refl
-  none_wanted (t ∷ ts) h =
-      ap (λ l. l ++ flat_map f ts) (others t (or_left (has questions (kind t)) (list_any (λ u. has questions (kind u)) ts) h))
-      ∙ none_wanted ts (or_right (has questions (kind t)) (list_any (λ u. has questions (kind u)) ts) h)
+  none_wanted ts h = flat_map-none (λ t. has questions (kind t)) f others ts h
 
   asked_unwanted : (m at : ℕ) (o : Option Asked) → flat_map f (asked_tells m at o) ≡ []
   asked_unwanted m at None = refl
@@ -254,22 +244,19 @@ module _ (f : Telling → List ℕ) (others : (t : Telling) → has questions (k
         by false xs ys = refl
 
     wanted_by : (ts : List Telling) (log : List Entry) (e : Entry) → flat_map f (tells ts log e) ≡ calls_taken test n log e
-    unfolding tells
     wanted_by ts log e = by e.event.act refl
       where
         by : (a : Act) → e.event.act ≡ a → flat_map f (tells ts log e) ≡ cond (steps_tracker n a) (flat_map (call_where test log) (taken log e)) []
         by (act.Tracker m) is =
             let first = called_tells log m e.event.at e.event.seed (list_any grants_peer e.puts) e.reply (taken log e) in
             let rest = flat_map (subscriber_tells log m) (taken log e) in
-            ap (λ a. flat_map f (act_tells ts log (length log) e.event.at e.event.seed e.reply (taken log e) e.puts a)) is
+            ap (flat_map f) (tells_as ts log e (act.Tracker m) is)
             ∙ (flat_map-append f first rest
             ∙ (ap (λ l. l ++ flat_map f rest) (called_unwanted log m e.event.at e.event.seed (list_any grants_peer e.puts) e.reply (taken log e)) ∙ items_wanted log m (taken log e)))
-        by a is = none_wanted (tells ts log e) (untold_of (λ t. has questions (kind t)) questions (λ t h. h) ts log e (ap (λ b. are_apart (kinds_of b) questions) is))
+        by a is = nothing_of questions f others ts log e (ap (λ b. are_apart (kinds_of b) questions) is)
 
     wanted-append : (log : List Entry) (e : Entry) → flat_map f (told (log ++ e ∷ [])) ≡ flat_map f (told log) ++ calls_taken test n log e
-    wanted-append log e =
-        ap (flat_map f) (told-append log e)
-        ∙ (flat_map-append f (told log) (tells (told log) log e) ∙ ap (λ l. flat_map f (told log) ++ l) (wanted_by (told log) log e))
+    wanted-append log e = collected-append log e f ∙ ap (λ l. flat_map f (told log) ++ l) (wanted_by (told log) log e)
 
 one_wanted : (b : Bool) (e : ℕ) → cond b (e ∷ []) [] ++ [] ≡ cond b (e ∷ []) []
 one_wanted true e = refl

@@ -1,23 +1,22 @@
 -- Which nodes run and which channels they have, after one more entry; and that valid input, which reads what was asked, has the same.
-use Rattle.std.proofs.Common.{◌≡◌, ℕ, Bool, true, false, cond, List, [], ◌∷◌, ◌++◌, map, length, refl, ap, sym, ◌∙◌, append-nil}
-use Rattle.std.specs.Prelude.{◌==◌, ◌||◌, flat_map, slice_get}
+use Rattle.std.proofs.Common.{◌≡◌, ℕ, Bool, true, false, cond, List, [], ◌∷◌, ◌++◌, map, refl, ap, sym, ◌∙◌, append-nil}
+use Rattle.std.specs.Prelude.{◌==◌, ◌||◌, flat_map}
 use Rattle.std.specs.List.{list_any}
-use Rattle.std.proofs.lemmas.Grind.{flat_map-append}
 use Rattle.std.proofs.lemmas.List.{map-append}
-use Rattle.std.proofs.lemmas.List.Folds.{list_any-append}
 use Rattle.p2p_log.specs.declared.config.Config.{Config}
 use Rattle.p2p_log.specs.declared.entry.Entry.{Entry}
 use Rattle.p2p_log.specs.declared.event.Act.{Act}
 use Rattle.p2p_log.specs.declared.event.Act.TheVariants as act
 use Rattle.p2p_log.specs.declared.event.Rate.{Rate}
-use Rattle.p2p_log_rules.specs.Facts.{events_of, starts, has_started, runs_node, is_up, capacity_for, registers_at, registered, rates_by, rate_told, rates, channels, taken, state_from}
+use Rattle.p2p_log_rules.specs.Facts.{events_of, starts, has_started, runs_node, is_up, with_capacity, registers_at, registered, rates_by, rate_told, rates, channels, state_from}
 use Rattle.p2p_log_rules.specs.Tellings.{Telling}
 use Rattle.p2p_log_rules.specs.Tellings as telling
-use Rattle.p2p_log_rules.specs.Told.{act_tells, tells, told}
-use Rattle.p2p_log_rules.proofs.Facts.{or-false, events_of-append, has_started-append, registered-append}
+use Rattle.p2p_log_rules.specs.Told.{tells, told}
+use Rattle.p2p_log_rules.proofs.Acted.{tells_as, nothing_of, found-append, collected-append}
+use Rattle.p2p_log_rules.proofs.Bools.{or_false}
+use Rattle.p2p_log_rules.proofs.Facts.{events_of-append, has_started-append, registered-append}
 use Rattle.p2p_log_rules.proofs.Families.{kind, kinds_of, has, are_apart, untold_of}
-use Rattle.p2p_log_rules.proofs.Ignoring.{flat_map-none, by_entries}
-use Rattle.p2p_log_rules.proofs.Tellings.{told-append}
+use Rattle.p2p_log_rules.proofs.Ignoring.{by_entries}
 
 -- ---- whether a node runs
 
@@ -27,15 +26,12 @@ up_kinds n _ h = refl
 
 -- an entry starts a node by its act
 up_told : (ts : List Telling) (log : List Entry) (e : Entry) (n : ℕ) (a : Act) → e.event.act ≡ a → list_any (runs_node n) (tells ts log e) ≡ starts n a
-unfolding tells
-up_told ts log e n (act.Start m) is = ap (λ b. list_any (runs_node n) (act_tells ts log (length log) e.event.at e.event.seed e.reply (taken log e) e.puts b)) is ∙ or-false (m == n)
+up_told ts log e n (act.Start m) is = ap (list_any (runs_node n)) (tells_as ts log e (act.Start m) is) ∙ or_false (m == n)
 up_told ts log e n a is = untold_of (runs_node n) (0 ∷ []) (up_kinds n) ts log e (ap (λ b. are_apart (kinds_of b) (0 ∷ [])) is)
 
 pub is_up-append : (log : List Entry) (e : Entry) (n : ℕ) → is_up (log ++ e ∷ []) n ≡ (is_up log n || starts n e.event.act)
 unfolding is_up
-is_up-append log e n =
-    ap (list_any (runs_node n)) (told-append log e)
-    ∙ (list_any-append (runs_node n) (told log) (tells (told log) log e) ∙ ap (λ b. is_up log n || b) (up_told (told log) log e n e.event.act refl))
+is_up-append log e n = found-append log e (runs_node n) ∙ ap (λ b. is_up log n || b) (up_told (told log) log e n e.event.act refl)
 
 pub is_up-none : (n : ℕ) → is_up [] n ≡ false
 unfolding is_up told state_from
@@ -59,54 +55,26 @@ is_up-asked log n = by_entries (λ l. is_up l n ≡ has_started (events_of l) n)
 
 -- ---- channels
 
-is_registered : Telling → Bool
-is_registered (telling.channel_registered m c rate) = true
-is_registered _ = false
-
-registered_kinds : (t : Telling) → has (20 ∷ []) (kind t) ≡ false → is_registered t ≡ false
-unfolding is_registered
-registered_kinds (telling.channel_registered m c rate) h = cc
-registered_kinds _ h = refl
-
-none_registered : (n : ℕ) (t : Telling) → is_registered t ≡ false → rate_told n t ≡ []
-unfolding is_registered
-none_registered n (telling.channel_registered m c rate) h = cc
-none_registered n _ h = refl
+of_rates : (n : ℕ) (t : Telling) → has (20 ∷ []) (kind t) ≡ false → rate_told n t ≡ []
+of_rates n (telling.channel_registered m c rate) h = cc
+of_rates n _ h = refl
 
 rate_of-act : (ts : List Telling) (log : List Entry) (e : Entry) (n : ℕ) (a : Act) → e.event.act ≡ a → flat_map (rate_told n) (tells ts log e) ≡ rates_by n a
-unfolding tells
-rate_of-act ts log e n (act.Register c m rate) is =
-    ap (λ b. flat_map (rate_told n) (act_tells ts log (length log) e.event.at e.event.seed e.reply (taken log e) e.puts b)) is ∙ append-nil (cond (m == n) ((c, rate) ∷ []) [])
-rate_of-act ts log e n a is =
-    flat_map-none is_registered (rate_told n) (none_registered n) (tells ts log e) (untold_of is_registered (20 ∷ []) registered_kinds ts log e (ap (λ b. are_apart (kinds_of b) (20 ∷ [])) is))
+rate_of-act ts log e n (act.Register c m rate) is = ap (flat_map (rate_told n)) (tells_as ts log e (act.Register c m rate) is) ∙ append-nil (cond (m == n) ((c, rate) ∷ []) [])
+rate_of-act ts log e n a is = nothing_of (20 ∷ []) (rate_told n) (of_rates n) ts log e (ap (λ b. are_apart (kinds_of b) (20 ∷ [])) is)
 
 pub rates-append : (log : List Entry) (e : Entry) (n : ℕ) → rates (log ++ e ∷ []) n ≡ rates log n ++ rates_by n e.event.act
 unfolding rates
-rates-append log e n =
-    ap (flat_map (rate_told n)) (told-append log e)
-    ∙ (flat_map-append (rate_told n) (told log) (tells (told log) log e) ∙ ap (λ l. rates log n ++ l) (rate_of-act (told log) log e n e.event.act refl))
+rates-append log e n = collected-append log e (rate_told n) ∙ ap (λ l. rates log n ++ l) (rate_of-act (told log) log e n e.event.act refl)
 
 pub rates-none : (n : ℕ) → rates [] n ≡ []
 unfolding rates told state_from
 rates-none n = refl
 
--- a channel with its capacity
-abbrev with_capacity : List Config → ℕ → ℕ × Rate → ℕ × ℕ
-with_capacity configs n c = (c.0, capacity_for (slice_get configs n) c.1)
-
-capacities : (configs : List Config) (n : ℕ) (a : Act) → map (with_capacity configs n) (rates_by n a) ≡ registers_at configs n a
-capacities configs n (act.Register c m rate) = by (m == n)
-  where
-    by : (b : Bool) → map (with_capacity configs n) (cond b ((c, rate) ∷ []) []) ≡ cond b ((c, capacity_for (slice_get configs n) rate) ∷ []) []
-    by true = refl
-    by false = refl
-capacities configs n _ = refl
-
 pub channels-append : (configs : List Config) (log : List Entry) (e : Entry) (n : ℕ) → channels configs (log ++ e ∷ []) n ≡ channels configs log n ++ registers_at configs n e.event.act
 unfolding channels
 channels-append configs log e n =
-    ap (map (with_capacity configs n)) (rates-append log e n)
-    ∙ (map-append (with_capacity configs n) (rates log n) (rates_by n e.event.act) ∙ ap (λ l. channels configs log n ++ l) (capacities configs n e.event.act))
+    ap (map (with_capacity configs n)) (rates-append log e n) ∙ map-append (with_capacity configs n) (rates log n) (rates_by n e.event.act)
 
 pub channels-none : (configs : List Config) (n : ℕ) → channels configs [] n ≡ []
 unfolding channels

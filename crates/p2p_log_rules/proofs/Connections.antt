@@ -1,10 +1,13 @@
 -- The connections of a node after one more entry, and in a longer log.
-use Rattle.std.proofs.Common.{◌≡◌, ℕ, Bool, true, false, cond, List, [], ◌∷◌, ◌++◌, map, length, Option, Some, None, refl, ap, sym, ◌∙◌}
-use Rattle.std.specs.Prelude.{◌||◌, ◌&&◌, ◌==◌}
+use Rattle.std.proofs.Common.{◌≡◌, ℕ, Bool, true, false, cond, List, [], ◌∷◌, ◌++◌, map, length, Option, Some, None, refl, ap, sym, ◌∙◌, arith, eqb-true}
+use Rattle.std.specs.Prelude.{◌||◌, ◌&&◌, ◌==◌, not}
 use Rattle.std.specs.List.{list_any}
 use Rattle.std.specs.Option.{option_map}
+use Rattle.std.proofs.lemmas.Bool.{and_parts, false≢true}
+use Rattle.std.proofs.lemmas.Bool.Decides.{nat_tests}
 use Rattle.std.proofs.lemmas.List.Folds.{list_any-append}
 use Rattle.std.proofs.lemmas.Option.{same_Some}
+use Rattle.p2p_log_rules.proofs.Bools.{and_false, and_true, or_false}
 use Rattle.p2p_log.specs.declared.queue.Side.{Side}
 use Rattle.p2p_log.specs.declared.item.Item.{Item}
 use Rattle.p2p_log.specs.declared.entry.Entry.{Entry}
@@ -13,207 +16,226 @@ use Rattle.p2p_log.specs.declared.entry.Reply.TheVariants as reply
 use Rattle.p2p_log.specs.declared.event.Act.{Act}
 use Rattle.p2p_log.specs.declared.event.Act.TheVariants as act
 use Rattle.p2p_log_rules.specs.declared.row.Half.{Half}
-use Rattle.p2p_log_rules.specs.Connections.{half_over, half_of, half_at, is_done, begins, is_step, is_begun, is_answer, answers_by, hears_answer, is_running, steps_sender, steps_receiver, is_end, ends_connection, is_over, is_ended, live_connection, live_half}
+use Rattle.p2p_log_rules.specs.Connections.{half_over, half_of, half_at, is_done, is_end, tells_some, is_step, is_begun, begins, is_answer, is_answered, has_run, runs, is_over, is_ended, ends_connection, is_running, live_connection, live_half}
 use Rattle.p2p_log_rules.specs.Facts.{taken, state_from}
 use Rattle.p2p_log_rules.specs.Halves.{half_in}
 use Rattle.p2p_log_rules.specs.Dialed.{dialer_of}
 use Rattle.p2p_log_rules.specs.Spawning.{Spawned, connections_of}
 use Rattle.p2p_log_rules.specs.Tellings.{Telling}
 use Rattle.p2p_log_rules.specs.Tellings as telling
-use Rattle.p2p_log_rules.specs.Told.{when, done_tells, sender_tells, end_tells, half_tells, act_tells, tells, told}
-pub use Rattle.p2p_log_rules.proofs.Dialed.{dialer_of-append, dialer_of-unmade, dialer_of-longer}
-use Rattle.p2p_log_rules.proofs.Facts.{or-false}
+use Rattle.p2p_log_rules.specs.HalfSteps.{puts_ping}
+use Rattle.p2p_log_rules.specs.Told.{when, done_tells, sender_tells, admitted_tells, act_tells, tells, told}
+use Rattle.p2p_log_rules.proofs.Dialed.{dialer_of-longer}
 use Rattle.p2p_log_rules.proofs.Families.{kind, kinds_of, has, are_apart, untold_of}
-use Rattle.p2p_log_rules.proofs.Ignoring.{and_true, and_false}
 use Rattle.p2p_log_rules.proofs.Spawning.{connections_of-longer}
 use Rattle.p2p_log_rules.proofs.Tellings.{told-append}
-use Rattle.p2p_log_rules.proofs.Told.{half_quiet, before_pings, before_admitted}
+use Rattle.p2p_log_rules.proofs.Told.{half_told, sender_quiet, admitted_quiet}
 
--- whether such a thing is told by an entry more
-told_more : (test : Telling → Bool) (log : List Entry) (e : Entry) (b : Bool) → list_any test (tells (told log) log e) ≡ b → list_any test (told (log ++ e ∷ [])) ≡ (list_any test (told log) || b)
-told_more test log e b is =
-    ap (list_any test) (told-append log e) ∙ (list_any-append test (told log) (tells (told log) log e) ∙ ap (λ c. list_any test (told log) || c) is)
+-- whether such a thing is told, with an entry more
+told_more : (test : Telling → Bool) (log : List Entry) (e : Entry) → list_any test (told (log ++ e ∷ [])) ≡ (list_any test (told log) || tells_some test log e)
+told_more test log e = ap (list_any test) (told-append log e) ∙ list_any-append test (told log) (tells (told log) log e)
 
--- what a step of a half tells of such things besides a drop: that its connection ended
-ended_told : (test : Telling → Bool) → ((link : ℕ) (s : Side) → test (telling.end_dropped link s) ≡ false) → (m c : ℕ) (r : Reply) (half : Option Half)
-    → list_any test (end_tells m c r ++ half_tells r half) ≡ list_any test (end_tells m c r)
-ended_told test drops m c r half =
-    list_any-append test (end_tells m c r) (half_tells r half) ∙ (ap (λ b. list_any test (end_tells m c r) || b) (half_quiet test 0 0 r half drops) ∙ or-false (list_any test (end_tells m c r)))
+-- an act that tells none of such things
+untold_some : (test : Telling → Bool) (ks : List ℕ) → ((t : Telling) → has ks (kind t) ≡ false → test t ≡ false) → (log : List Entry) (e : Entry) (a : Act) → e.event.act ≡ a → are_apart (kinds_of a) ks ≡ true → tells_some test log e ≡ false
+untold_some test ks of_kinds log e a is apart = untold_of test ks of_kinds (told log) log e (ap (λ b. are_apart (kinds_of b) ks) is ∙ apart)
 
--- that it did a step, or took its router's answer
-abbrev steps_told : (Telling → Bool) → ℕ → ℕ → Reply → Bool
-steps_told test m c r = list_any test (done_tells r (telling.half_stepped m c ∷ []))
+-- ---- whose step an act is
 
-abbrev answer_told : (Telling → Bool) → ℕ → ℕ → List Item → Bool
-answer_told test m c items = list_any test (when (list_any is_answer items) (telling.answer_heard m c ∷ []))
+abbrev pub steps_sender : ℕ → ℕ → Act → Bool
+steps_sender n conn (act.SendStep e m) = (m == n) && (e == conn)
+steps_sender n conn _ = false
 
--- and what one of a sending half tells
-sender_told : (test : Telling → Bool) → ((link : ℕ) (s : Side) → test (telling.end_dropped link s) ≡ false) → (m c : ℕ) (r : Reply) (items : List Item) (half : Option Half)
-    → list_any test (sender_tells m c r items ++ (end_tells m c r ++ half_tells r half)) ≡ ((steps_told test m c r || answer_told test m c items) || list_any test (end_tells m c r))
-sender_told test drops m c r items half =
-    list_any-append test (sender_tells m c r items) (end_tells m c r ++ half_tells r half)
-    ∙ (ap (λ b. b || list_any test (end_tells m c r ++ half_tells r half))
-    (list_any-append test (done_tells r (telling.half_stepped m c ∷ [])) (when (list_any is_answer items) (telling.answer_heard m c ∷ [])))
-    ∙ ap (λ b. (steps_told test m c r || answer_told test m c items) || b) (ended_told test drops m c r half))
+abbrev pub steps_receiver : ℕ → ℕ → Act → Bool
+steps_receiver n conn (act.RecvStep e m) = (m == n) && (e == conn)
+steps_receiver n conn _ = false
 
--- ---- begun
+-- a step of the sending half of a connection, or of the receiving half
+abbrev pub half_act : Bool → ℕ → ℕ → Act
+half_act true conn n = act.SendStep conn n
+half_act false conn n = act.RecvStep conn n
 
-module _ (n conn : ℕ) where
+pub sender_is : (n conn : ℕ) (a : Act) → steps_sender n conn a ≡ true → a ≡ half_act true conn n
+sender_is n conn (act.SendStep c m) h = let both = and_parts (m == n) (c == conn) h in ap (λ k. act.SendStep k m) (eqb-true c conn both.1) ∙ ap (act.SendStep conn) (eqb-true m n both.0)
+sender_is n conn _ h = absurd (false≢true h)
+
+pub receiver_is : (n conn : ℕ) (a : Act) → steps_receiver n conn a ≡ true → a ≡ half_act false conn n
+receiver_is n conn (act.RecvStep c m) h = let both = and_parts (m == n) (c == conn) h in ap (λ k. act.RecvStep k m) (eqb-true c conn both.1) ∙ ap (act.RecvStep conn) (eqb-true m n both.0)
+receiver_is n conn _ h = absurd (false≢true h)
+
+-- it tells of no end of a connection
+abbrev pub EndsNone : Act → Type 0
+EndsNone a = are_apart (kinds_of a) (28 ∷ []) ≡ true
+
+-- ---- begun, answered and ended, by that and by the reply
+
+module _ (log : List Entry) (e : Entry) (n conn : ℕ) where
+  -- what a step of a sending half tells of such things: of its end, and where it was done besides
+  sent : (test : Telling → Bool) → ((link : ℕ) (s : Side) → test (telling.end_dropped link s) ≡ false) → (c m : ℕ) → e.event.act ≡ act.SendStep c m
+      → tells_some test log e ≡ ((is_end e.reply && test (telling.connection_ended m c)) || list_any test (done_tells e.reply (sender_tells m c e.event.at (taken log e) e.puts)))
+  unfolding tells
+  sent test drops c m is =
+      ap (λ a. list_any test (act_tells (told log) log (length log) e.event.at e.event.seed e.reply (taken log e) e.puts a)) is
+      ∙ half_told test 0 0 m c e.reply (half_in (told log) m c) (done_tells e.reply (sender_tells m c e.event.at (taken log e) e.puts)) drops
+
   step_kinds : (t : Telling) → has (26 ∷ []) (kind t) ≡ false → is_step n conn t ≡ false
   step_kinds (telling.half_stepped m c) h = cc
   step_kinds _ h = refl
 
-  step_told : (m c : ℕ) (r : Reply) (items : List Item) → ((steps_told (is_step n conn) m c r || answer_told (is_step n conn) m c items) || list_any (is_step n conn) (end_tells m c r)) ≡ (((m == n) && (c == conn)) && is_done r)
-  step_told m c r items = by r (list_any is_answer items)
+  -- a sending half does a step by such an act where it is one of it, and was done
+  pub begins_act : (a : Act) → e.event.act ≡ a → begins n conn log e ≡ (steps_sender n conn a && is_done e.reply)
+  begins_act (act.SendStep c m) is =
+      sent (is_step n conn) (λ link s. refl) c m is
+      ∙ (ap (λ b. b || list_any (is_step n conn) (done_tells e.reply (sender_tells m c e.event.at (taken log e) e.puts))) (and_false (is_end e.reply)) ∙ by (is_done e.reply) (list_any is_answer (taken log e)) (puts_ping (taken log e) e.puts))
     where
       it : Bool
       it = (m == n) && (c == conn)
 
-      done : (b : Bool) → (((b || false) || false) || false) ≡ (b && true)
-      done true = refl
-      done false = refl
+      by : (done answer ping : Bool)
+          → list_any (is_step n conn) (when done (telling.half_stepped m c ∷ (when answer (telling.connection_ran m c e.event.at ∷ []) ++ when ping (telling.ping_put m c e.event.at ∷ [])))) ≡ (it && done)
+      by true true true = or_false it ∙ sym (and_true it)
+      by true true false = or_false it ∙ sym (and_true it)
+      by true false true = or_false it ∙ sym (and_true it)
+      by true false false = or_false it ∙ sym (and_true it)
+      by false answer ping = sym (and_false it)
+  begins_act a is = untold_some (is_step n conn) (26 ∷ []) step_kinds log e a is refl
 
-      by : (r : Reply) (b : Bool)
-          → ((steps_told (is_step n conn) m c r || list_any (is_step n conn) (when b (telling.answer_heard m c ∷ []))) || list_any (is_step n conn) (end_tells m c r)) ≡ (((m == n) && (c == conn)) && is_done r)
-      by reply.Ok true = done it
-      by reply.Ok false = done it
-      by (reply.Ended why) true = sym (and_false it)
-      by (reply.Ended why) false = sym (and_false it)
-      by _ true = sym (and_false it)
-      by _ false = sym (and_false it)
+  pub begins_is : begins n conn log e ≡ (steps_sender n conn e.event.act && is_done e.reply)
+  begins_is = begins_act e.event.act refl
 
-  step_act : (log : List Entry) (e : Entry) (a : Act) → e.event.act ≡ a → list_any (is_step n conn) (tells (told log) log e) ≡ (steps_sender n conn a && is_done e.reply)
+  answer_kinds : (t : Telling) → has (40 ∷ []) (kind t) ≡ false → is_answered n conn t ≡ false
+  answer_kinds (telling.connection_ran m c at) h = cc
+  answer_kinds _ h = refl
+
+  runs_act : (a : Act) → e.event.act ≡ a → runs n conn log e ≡ ((steps_sender n conn a && is_done e.reply) && list_any is_answer (taken log e))
+  runs_act (act.SendStep c m) is =
+      sent (is_answered n conn) (λ link s. refl) c m is
+      ∙ (ap (λ b. b || list_any (is_answered n conn) (done_tells e.reply (sender_tells m c e.event.at (taken log e) e.puts))) (and_false (is_end e.reply)) ∙ by (is_done e.reply) (list_any is_answer (taken log e)) (puts_ping (taken log e) e.puts))
+    where
+      it : Bool
+      it = (m == n) && (c == conn)
+
+      here : (it || false) ≡ ((it && true) && true)
+      here = or_false it ∙ (sym (and_true it) ∙ sym (and_true (it && true)))
+
+      by : (done answer ping : Bool)
+          → list_any (is_answered n conn) (when done (telling.half_stepped m c ∷ (when answer (telling.connection_ran m c e.event.at ∷ []) ++ when ping (telling.ping_put m c e.event.at ∷ [])))) ≡ ((it && done) && answer)
+      by true true true = here
+      by true true false = here
+      by true false true = sym (and_false (it && true))
+      by true false false = sym (and_false (it && true))
+      by false answer ping = sym (ap (λ b. b && answer) (and_false it))
+  runs_act a is = untold_some (is_answered n conn) (40 ∷ []) answer_kinds log e a is refl
+
+  -- it is answered in a step that is done and takes its router's answer
+  pub runs_is : runs n conn log e ≡ (begins n conn log e && list_any is_answer (taken log e))
+  runs_is = runs_act e.event.act refl ∙ ap (λ b. b && list_any is_answer (taken log e)) (sym begins_is)
+
+  over_kinds : (t : Telling) → has (28 ∷ []) (kind t) ≡ false → is_over n conn t ≡ false
+  over_kinds (telling.connection_ended m c) h = cc
+  over_kinds _ h = refl
+
+  swapped : (b c : Bool) → ((b && c) || false) ≡ ((c || false) && b)
+  swapped true true = refl
+  swapped true false = refl
+  swapped false c = sym (and_false (c || false))
+
+  -- one ends by such an act where it is a step of one of its halves, and says so
+  pub ends_act : (a : Act) → e.event.act ≡ a → ends_connection n conn log e ≡ ((steps_sender n conn a || steps_receiver n conn a) && is_end e.reply)
   unfolding tells
-  step_act log e (act.SendStep c m) is =
-      ap (λ b. list_any (is_step n conn) (act_tells (told log) log (length log) e.event.at e.event.seed e.reply (taken log e) e.puts b)) is
-      ∙ (before_pings (is_step n conn) (length log) e.event.at (sender_tells m c e.reply (taken log e) ++ (end_tells m c e.reply ++ half_tells e.reply (half_in (told log) m c))) m c e.reply (taken log e) e.puts (record { runs = refl; pings = refl })
-      ∙ sender_told (is_step n conn) (λ link s. refl) m c e.reply (taken log e) (half_in (told log) m c) ∙ step_told m c e.reply (taken log e))
-  step_act log e a is = untold_of (is_step n conn) (26 ∷ []) step_kinds (told log) log e (ap (λ b. are_apart (kinds_of b) (26 ∷ [])) is)
+  ends_act (act.SendStep c m) is =
+      sent (is_over n conn) (λ link s. refl) c m is
+      ∙ (ap (λ b. (is_end e.reply && ((m == n) && (c == conn))) || b) (sender_quiet (is_over n conn) 0 e.event.at m c e.reply (taken log e) e.puts (record { step = refl; runs = refl; pings = refl }))
+      ∙ swapped (is_end e.reply) ((m == n) && (c == conn)))
+  ends_act (act.RecvStep c m) is =
+      ap (λ a. list_any (is_over n conn) (act_tells (told log) log (length log) e.event.at e.event.seed e.reply (taken log e) e.puts a)) is
+      ∙ (half_told (is_over n conn) 0 0 m c e.reply (half_in (told log) m c) (admitted_tells m c e.event.at e.reply (taken log e) e.puts) (λ link s. refl)
+      ∙ (ap (λ b. (is_end e.reply && ((m == n) && (c == conn))) || b) (admitted_quiet (is_over n conn) 0 e.event.at m c e.reply (taken log e) e.puts (λ i. refl))
+      ∙ (swapped (is_end e.reply) ((m == n) && (c == conn)) ∙ ap (λ b. b && is_end e.reply) (or_false ((m == n) && (c == conn))))))
+  ends_act a is = untold_some (is_over n conn) (28 ∷ []) over_kinds log e a is refl
 
-pub is_begun-append : (log : List Entry) (e : Entry) (n conn : ℕ) → is_begun (log ++ e ∷ []) n conn ≡ (is_begun log n conn || begins n conn e)
+  pub ends_is : ends_connection n conn log e ≡ ((steps_sender n conn e.event.act || steps_receiver n conn e.event.act) && is_end e.reply)
+  ends_is = ends_act e.event.act refl
+
+  -- an act that tells of no end ends none
+  pub ends_untold : (a : Act) → e.event.act ≡ a → EndsNone a → ends_connection n conn log e ≡ false
+  ends_untold a is none = untold_some (is_over n conn) (28 ∷ []) over_kinds log e a is none
+
+  -- nor does one that is no step of its halves
+  pub ends_none-act : (a : Act) → e.event.act ≡ a → (steps_sender n conn a || steps_receiver n conn a) ≡ false → ends_connection n conn log e ≡ false
+  ends_none-act a is h = ends_act a is ∙ ap (λ b. b && is_end e.reply) h
+
+  -- nor does another reply
+  pub ends_none-reply : is_end e.reply ≡ false → ends_connection n conn log e ≡ false
+  ends_none-reply h = ends_is ∙ (ap (λ b. (steps_sender n conn e.event.act || steps_receiver n conn e.event.act) && b) h ∙ and_false (steps_sender n conn e.event.act || steps_receiver n conn e.event.act))
+
+-- ---- what an entry is that tells so
+
+-- it is a step of one of the halves of the connection, which says that it ended
+pub record IsEndOf (e : Entry) (n conn : ℕ) : Type 0 where
+  pub sends : Bool
+  pub acts : e.event.act ≡ half_act sends conn n
+  pub says : is_end e.reply ≡ true
+
+module _ (log : List Entry) (e : Entry) (n conn : ℕ) where
+  pub end_of : ends_connection n conn log e ≡ true → IsEndOf e n conn
+  end_of h =
+      let both = and_parts (steps_sender n conn e.event.act || steps_receiver n conn e.event.act) (is_end e.reply) (sym (ends_is log e n conn) ∙ h) in
+      by (steps_sender n conn e.event.act) refl both.0 both.1
+    where
+      by : (b : Bool) → steps_sender n conn e.event.act ≡ b → (b || steps_receiver n conn e.event.act) ≡ true → is_end e.reply ≡ true → IsEndOf e n conn
+      by true is h says = record { sends = true; acts = sender_is n conn e.event.act is; says = says }
+      by false is h says = record { sends = false; acts = receiver_is n conn e.event.act h; says = says }
+
+  -- and such a step ends it
+  pub end_by : (sends : Bool) → e.event.act ≡ half_act sends conn n → is_end e.reply ≡ true → ends_connection n conn log e ≡ true
+  end_by true acts says = ends_act log e n conn (act.SendStep conn n) acts ∙ (ap (λ b. (b || false) && is_end e.reply) (here n conn) ∙ says)
+    where
+      here : (n conn : ℕ) → ((n == n) && (conn == conn)) ≡ true
+      here n conn = grind (arith, nat_tests)
+  end_by false acts says = ends_act log e n conn (act.RecvStep conn n) acts ∙ (ap (λ b. b && is_end e.reply) (here n conn) ∙ says)
+    where
+      here : (n conn : ℕ) → ((n == n) && (conn == conn)) ≡ true
+      here n conn = grind (arith, nat_tests)
+
+  -- a step that is done is one of the sending half
+  pub begin_of : begins n conn log e ≡ true → (e.event.act ≡ half_act true conn n) × (is_done e.reply ≡ true)
+  begin_of h =
+      let both = and_parts (steps_sender n conn e.event.act) (is_done e.reply) (sym (begins_is log e n conn) ∙ h) in
+      (sender_is n conn e.event.act both.0, both.1)
+
+-- ---- with an entry more
+
+pub is_begun-append : (log : List Entry) (e : Entry) (n conn : ℕ) → is_begun (log ++ e ∷ []) n conn ≡ (is_begun log n conn || begins n conn log e)
 unfolding is_begun
-is_begun-append log e n conn = told_more (is_step n conn) log e (begins n conn e) (step_act n conn log e e.event.act refl)
+is_begun-append log e n conn = told_more (is_step n conn) log e
 
 pub is_begun-none : (n conn : ℕ) → is_begun [] n conn ≡ false
 unfolding is_begun told state_from
 is_begun-none n conn = refl
 
--- ---- running
+pub has_run-append : (log : List Entry) (e : Entry) (n conn : ℕ) → has_run (log ++ e ∷ []) n conn ≡ (has_run log n conn || runs n conn log e)
+unfolding has_run
+has_run-append log e n conn = told_more (is_answered n conn) log e
 
-module _ (n conn : ℕ) where
-  answer_kinds : (t : Telling) → has (27 ∷ []) (kind t) ≡ false → hears_answer n conn t ≡ false
-  answer_kinds (telling.answer_heard m c) h = cc
-  answer_kinds _ h = refl
+pub has_run-none : (n conn : ℕ) → has_run [] n conn ≡ false
+unfolding has_run told state_from
+has_run-none n conn = refl
 
-  heard_told : (m c : ℕ) (r : Reply) (items : List Item)
-      → ((steps_told (hears_answer n conn) m c r || answer_told (hears_answer n conn) m c items) || list_any (hears_answer n conn) (end_tells m c r)) ≡ list_any (λ b. b) (cond ((m == n) && (c == conn)) (map is_answer items) [])
-  heard_told m c r items = by r ∙ (heard (list_any is_answer items) ∙ both ((m == n) && (c == conn)))
-    where
-      answer : Bool
-      answer = answer_told (hears_answer n conn) m c items
-
-      by : (r : Reply) → ((steps_told (hears_answer n conn) m c r || answer) || list_any (hears_answer n conn) (end_tells m c r)) ≡ answer
-      by reply.Ok = or-false answer
-      by (reply.Ended why) = or-false answer
-      by _ = or-false answer
-
-      heard : (b : Bool) → list_any (hears_answer n conn) (when b (telling.answer_heard m c ∷ [])) ≡ (b && ((m == n) && (c == conn)))
-      heard true = or-false ((m == n) && (c == conn))
-      heard false = refl
-
-      any_mapped : (items : List Item) → list_any is_answer items ≡ list_any (λ b. b) (map is_answer items)
-      any_mapped [] = refl
-      any_mapped (i ∷ items) = ap (λ b. is_answer i || b) (any_mapped items)
-
-      both : (st : Bool) → (list_any is_answer items && st) ≡ list_any (λ b. b) (cond st (map is_answer items) [])
-      both true = and_true (list_any is_answer items) ∙ any_mapped items
-      both false = and_false (list_any is_answer items)
-
-  answer_act : (log : List Entry) (e : Entry) (a : Act) → e.event.act ≡ a → list_any (hears_answer n conn) (tells (told log) log e) ≡ list_any (λ b. b) (cond (steps_sender n conn a) (map is_answer (taken log e)) [])
-  unfolding tells
-  answer_act log e (act.SendStep c m) is =
-      ap (λ b. list_any (hears_answer n conn) (act_tells (told log) log (length log) e.event.at e.event.seed e.reply (taken log e) e.puts b)) is
-      ∙ (before_pings (hears_answer n conn) (length log) e.event.at (sender_tells m c e.reply (taken log e) ++ (end_tells m c e.reply ++ half_tells e.reply (half_in (told log) m c))) m c e.reply (taken log e) e.puts (record { runs = refl; pings = refl })
-      ∙ sender_told (hears_answer n conn) (λ link s. refl) m c e.reply (taken log e) (half_in (told log) m c) ∙ heard_told m c e.reply (taken log e))
-  answer_act log e a is = untold_of (hears_answer n conn) (27 ∷ []) answer_kinds (told log) log e (ap (λ b. are_apart (kinds_of b) (27 ∷ [])) is)
-
-pub is_running-append :
-    (log : List Entry) (e : Entry) (n conn : ℕ)
-    → is_running (log ++ e ∷ []) n conn ≡ (is_running log n conn || list_any (λ b. b) (answers_by n conn log e))
-unfolding is_running
-is_running-append log e n conn = told_more (hears_answer n conn) log e (list_any (λ b. b) (answers_by n conn log e)) (answer_act n conn log e e.event.act refl)
-
-pub is_running-none : (n conn : ℕ) → is_running [] n conn ≡ false
-unfolding is_running told state_from
-is_running-none n conn = refl
-
--- ---- ended
-
-module _ (n conn : ℕ) where
-  over_kinds : (t : Telling) → has (28 ∷ []) (kind t) ≡ false → is_over n conn t ≡ false
-  over_kinds (telling.connection_ended m c) h = cc
-  over_kinds _ h = refl
-
-  -- what a step of this reply says of a connection
-  over_told : (m c : ℕ) (r : Reply) → list_any (is_over n conn) (end_tells m c r) ≡ (((m == n) && (c == conn)) && is_end r)
-  over_told m c r = by r
-    where
-      it : Bool
-      it = (m == n) && (c == conn)
-
-      by : (r : Reply) → list_any (is_over n conn) (end_tells m c r) ≡ (((m == n) && (c == conn)) && is_end r)
-      by (reply.Ended why) = or-false it ∙ sym (and_true it)
-      by _ = sym (and_false it)
-
-  sender_over : (m c : ℕ) (r : Reply) (items : List Item)
-      → ((steps_told (is_over n conn) m c r || answer_told (is_over n conn) m c items) || list_any (is_over n conn) (end_tells m c r)) ≡ list_any (is_over n conn) (end_tells m c r)
-  sender_over m c r items = by r (list_any is_answer items)
-    where
-      by : (r : Reply) (b : Bool)
-          → ((steps_told (is_over n conn) m c r || list_any (is_over n conn) (when b (telling.answer_heard m c ∷ []))) || list_any (is_over n conn) (end_tells m c r)) ≡ list_any (is_over n conn) (end_tells m c r)
-      by reply.Ok true = refl
-      by reply.Ok false = refl
-      by (reply.Ended why) true = refl
-      by (reply.Ended why) false = refl
-      by _ true = refl
-      by _ false = refl
-
-  over_act : (log : List Entry) (e : Entry) (a : Act) → e.event.act ≡ a → list_any (is_over n conn) (tells (told log) log e) ≡ ((steps_sender n conn a || steps_receiver n conn a) && is_end e.reply)
-  unfolding tells
-  over_act log e (act.SendStep c m) is =
-      ap (λ b. list_any (is_over n conn) (act_tells (told log) log (length log) e.event.at e.event.seed e.reply (taken log e) e.puts b)) is
-      ∙ (before_pings (is_over n conn) (length log) e.event.at (sender_tells m c e.reply (taken log e) ++ (end_tells m c e.reply ++ half_tells e.reply (half_in (told log) m c))) m c e.reply (taken log e) e.puts (record { runs = refl; pings = refl })
-      ∙ sender_told (is_over n conn) (λ link s. refl) m c e.reply (taken log e) (half_in (told log) m c)
-      ∙ (sender_over m c e.reply (taken log e) ∙ (over_told m c e.reply ∙ ap (λ b. b && is_end e.reply) (sym (or-false ((m == n) && (c == conn)))))))
-  over_act log e (act.RecvStep c m) is =
-      ap (λ b. list_any (is_over n conn) (act_tells (told log) log (length log) e.event.at e.event.seed e.reply (taken log e) e.puts b)) is
-      ∙ (before_admitted (is_over n conn) (length log) e.event.at (end_tells m c e.reply ++ half_tells e.reply (half_in (told log) m c)) m c e.reply (taken log e) e.puts (λ i. refl)
-      ∙ (ended_told (is_over n conn) (λ link s. refl) m c e.reply (half_in (told log) m c) ∙ over_told m c e.reply))
-  over_act log e a is = untold_of (is_over n conn) (28 ∷ []) over_kinds (told log) log e (ap (λ b. are_apart (kinds_of b) (28 ∷ [])) is)
-
-pub is_ended-append : (log : List Entry) (e : Entry) (n conn : ℕ) → is_ended (log ++ e ∷ []) n conn ≡ (is_ended log n conn || ends_connection n conn e)
+pub is_ended-append : (log : List Entry) (e : Entry) (n conn : ℕ) → is_ended (log ++ e ∷ []) n conn ≡ (is_ended log n conn || ends_connection n conn log e)
 unfolding is_ended
-is_ended-append log e n conn = told_more (is_over n conn) log e (ends_connection n conn e) (over_act n conn log e e.event.act refl)
+is_ended-append log e n conn = told_more (is_over n conn) log e
 
 pub is_ended-none : (n conn : ℕ) → is_ended [] n conn ≡ false
 unfolding is_ended told state_from
 is_ended-none n conn = refl
 
--- an entry ends none by its act, where that is no step of one of its halves
-pub ends_none-act : (e : Entry) (n conn : ℕ) (a : Act) → e.event.act ≡ a → (steps_sender n conn a || steps_receiver n conn a) ≡ false → ends_connection n conn e ≡ false
-ends_none-act e n conn a is h = ap (λ b. (steps_sender n conn b || steps_receiver n conn b) && is_end e.reply) is ∙ ap (λ b. b && is_end e.reply) h
-
--- or by its reply
-pub ends_none-reply : (e : Entry) (n conn : ℕ) → is_end e.reply ≡ false → ends_connection n conn e ≡ false
-ends_none-reply e n conn h = ap (λ b. (steps_sender n conn e.event.act || steps_receiver n conn e.event.act) && b) h ∙ never (steps_sender n conn e.event.act || steps_receiver n conn e.event.act)
-  where
-    never : (b : Bool) → (b && false) ≡ false
-    never true = refl
-    never false = refl
-
 -- an entry that does not end it leaves it as it was
-pub is_ended-kept : (log : List Entry) (e : Entry) (n conn : ℕ) → ends_connection n conn e ≡ false → is_ended (log ++ e ∷ []) n conn ≡ is_ended log n conn
-is_ended-kept log e n conn h = is_ended-append log e n conn ∙ (ap (λ b. is_ended log n conn || b) h ∙ or-false (is_ended log n conn))
+pub is_ended-kept : (log : List Entry) (e : Entry) (n conn : ℕ) → ends_connection n conn log e ≡ false → is_ended (log ++ e ∷ []) n conn ≡ is_ended log n conn
+is_ended-kept log e n conn h = is_ended-append log e n conn ∙ (ap (λ b. is_ended log n conn || b) h ∙ or_false (is_ended log n conn))
+
+-- one that has not ended runs once it was answered
+running_live : (log : List Entry) (n conn : ℕ) → is_ended log n conn ≡ false → is_running log n conn ≡ has_run log n conn
+running_live log n conn lives = ap (λ b. has_run log n conn && not b) lives ∙ and_true (has_run log n conn)
 
 -- what a half is made of
 pub record HalfParts (log : List Entry) (n conn : ℕ) (half : Half) : Type 0 where
@@ -266,7 +288,11 @@ is_live log n conn half h = by (is_ended log n conn) refl h
     by true is h = absurd (cc)
     by false is h = record { lives = is; at = h }
 
+-- one that has a half that has not ended runs once it was answered
+pub running_of : (log : List Entry) (n conn : ℕ) (half : Half) → live_half log n conn ≡ Some half → is_running log n conn ≡ has_run log n conn
+running_of log n conn half h = running_live log n conn (is_live log n conn half h).lives
+
 -- an entry that neither makes it nor ends it leaves it as it was
-pub live_connection-kept : (log : List Entry) (e : Entry) (n conn : ℕ) → ends_connection n conn e ≡ false → connections_of (log ++ e ∷ []) n conn ≡ connections_of log n conn
+pub live_connection-kept : (log : List Entry) (e : Entry) (n conn : ℕ) → ends_connection n conn log e ≡ false → connections_of (log ++ e ∷ []) n conn ≡ connections_of log n conn
     → live_connection (log ++ e ∷ []) n conn ≡ live_connection log n conn
 live_connection-kept log e n conn lives same = ap (λ b. cond b None (connections_of (log ++ e ∷ []) n conn)) (is_ended-kept log e n conn lives) ∙ ap (λ o. cond (is_ended log n conn) None o) same

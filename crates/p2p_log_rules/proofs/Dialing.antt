@@ -4,16 +4,16 @@ use Rattle.std.specs.Prelude.{◌==◌, unwrap_or, count_by}
 use Rattle.std.specs.List.{list_any}
 use Rattle.std.proofs.lemmas.List.Sums.{sum_by-append}
 use Rattle.p2p_base.specs.declared.key.Key.{Key}
+use Rattle.p2p_address.specs.declared.peer.Ingress.{Ingress}
 use Rattle.p2p_log.specs.declared.config.Config.{Config}
 use Rattle.p2p_log.specs.declared.queue.Queue.{Queue}
 use Rattle.p2p_log.specs.declared.item.Item.{Item}
 use Rattle.p2p_log.specs.declared.item.Item.TheVariants as item
 use Rattle.p2p_log.specs.declared.entry.Entry.{Entry}
 use Rattle.p2p_log.specs.declared.entry.Reply.{Reply}
-use Rattle.p2p_log.specs.declared.entry.Reply.TheVariants as reply
 use Rattle.p2p_log.specs.declared.event.Act.{Act}
 use Rattle.p2p_log.specs.declared.event.Act.TheVariants as act
-use Rattle.p2p_log_rules.specs.Dialing.{Pace, pace_at, after_dial, next_deadline, Dials, in_drawn_order, new_dials, without_last, lists, dials, less, left_of, dial_list, asks, sets_deadline, dials_in, dials_of}
+use Rattle.p2p_log_rules.specs.Dialing.{Pace, pace_at, after_dial, next_deadline, Dials, in_drawn_order, new_dials, without_last, lists, dials, less, left_of, dial_list, asks, sets_deadline, dials_in, dials_of, dial_puts}
 use Rattle.p2p_log_rules.specs.Facts.{starts, taken}
 use Rattle.p2p_log_rules.specs.Tellings.{Telling, Last, last_told, last_or}
 use Rattle.p2p_log_rules.specs.Tellings as telling
@@ -147,9 +147,16 @@ dials_of-kept configs log e n h =
 
 -- ---- by its act
 
+-- an entry whose act is known
+pub dials_of-act : (configs : List Config) (log : List Entry) (e : Entry) (n : ℕ) (a : Act) → e.event.act ≡ a
+    → dials_of configs (log ++ e ∷ []) n ≡ dials_told (pace_at configs n) n (act_tells (told log) log (length log) e.event.at e.event.seed e.reply (taken log e) e.puts a) (dials_of configs log n)
+unfolding tells
+dials_of-act configs log e n a is =
+    dials_of-append configs log e n
+    ∙ ap (λ b. dials_told (pace_at configs n) n (act_tells (told log) log (length log) e.event.at e.event.seed e.reply (taken log e) e.puts b) (dials_of configs log n)) is
+
 -- one that takes and puts nothing, and starts no node
 pub dials_of-still : (configs : List Config) (log : List Entry) (e : Entry) (n : ℕ) → starts n e.event.act ≡ false → taken log e ≡ [] → e.puts ≡ [] → dials_of configs (log ++ e ∷ []) n ≡ dials_of configs log n
-unfolding tells
 dials_of-still configs log e n no_start none no_puts = by e.event.act refl
   where
     pace : Pace
@@ -162,53 +169,14 @@ dials_of-still configs log e n no_start none no_puts = by e.event.act refl
     by (act.Start m) is = dials_of-kept configs log e n (ap (dials_by n) is ∙ (sym (ap (starts n) is) ∙ no_start))
     by (act.Dialer m) is =
         let asked : ℕ = last_or 0 (asks_list m) (told log) in
-        dials_of-append configs log e n
-        ∙ (ap (λ a. dials_told pace n (act_tells (told log) log (length log) e.event.at e.event.seed e.reply (taken log e) e.puts a) d) is
+        dials_of-act configs log e n (act.Dialer m) is
         ∙ (ap (λ items. dials_told pace n (answer_tells m asked (length log) e.event.at e.event.seed items ++ ask_tells m e.event.at items e.puts) d) none
-        ∙ ap (λ puts. dials_told pace n (ask_tells m e.event.at [] puts) d) no_puts))
+        ∙ ap (λ puts. dials_told pace n (ask_tells m e.event.at [] puts) d) no_puts)
     by a is = dials_of-kept configs log e n (ap (dials_by n) is)
 
--- at the start of its node
-pub dials_of-starts : (configs : List Config) (log : List Entry) (e : Entry) (n : ℕ) → e.event.act ≡ act.Start n → e.reply ≡ reply.Ok → dials_of configs (log ++ e ∷ []) n ≡ new_dials e.event.at
-unfolding tells
-dials_of-starts configs log e n is ok =
-    dials_of-append configs log e n
-    ∙ (ap (λ a. dials_told pace n (act_tells (told log) log (length log) e.event.at e.event.seed e.reply (taken log e) e.puts a) d) is
-    ∙ ap (λ b. record { peers = keys_after pace n (cond b (Some []) None) false d.peers; deadline = unwrap_or (cond b (Some e.event.at) None) d.deadline; asked_at = unwrap_or (cond b (Some e.event.at) None) d.asked_at; is_asking = unwrap_or (cond b (Some false) None) d.is_asking }) (eq-eqb n n refl))
-  where
-    pace : Pace
-    pace = pace_at configs n
+-- ---- what is told of it itself
 
-    d : Dials
-    d = dials_of configs log n
-
--- once it took an answer: a list is kept in an order that is drawn
-abbrev pub told_dials : Pace → ℕ → List Item → Dials → Dials
-told_dials pace seed (item.Dialable next peers ∷ items) d = record d { peers = in_drawn_order seed peers; deadline = next_deadline pace d.asked_at peers next }
-told_dials pace seed _ d = d
-
--- once it came to its deadline, where it took nothing: the next one is that after a dial
-abbrev pub due_dials : Pace → ℕ → List Item → Dials → Dials
-due_dials pace at [] d = record d { deadline = after_dial pace at }
-due_dials pace at (i ∷ items) d = d
-
--- once it asked this
-abbrev pub asked_dials : Pace → ℕ → List Item → List (Queue × Item) → Dials → Dials
-asked_dials pace at items ((q, item.AskDial k) ∷ puts) d = record (due_dials pace at items d) { peers = without_last d.peers; is_asking = true }
-asked_dials pace at items ((q, item.AskDialable) ∷ puts) d = record d { asked_at = at; is_asking = true }
-asked_dials pace at items _ d = record d { is_asking = false }
-
-abbrev pub stepped_dials : Pace → ℕ → ℕ → List Item → List (Queue × Item) → Dials → Dials
-stepped_dials pace at seed items puts d = asked_dials pace at items puts (told_dials pace seed items d)
-
--- a step that did something took an answer or asked
-abbrev pub works : List Item → List (Queue × Item) → Bool
-works (i ∷ items) puts = true
-works [] ((q, item.AskDial k) ∷ puts) = true
-works [] ((q, item.AskDialable) ∷ puts) = true
-works [] _ = false
-
-module _ (pace : Pace) (n name at seed : ℕ) where
+module _ (pace : Pace) (n : ℕ) where
   told_append : (ts us : List Telling) (d : Dials) → dials_told pace n (ts ++ us) d ≡ dials_told pace n us (dials_told pace n ts d)
   told_append [] us d = refl
   told_append (t ∷ ts) us d = told_append ts us (dials_after pace n t d)
@@ -216,49 +184,52 @@ module _ (pace : Pace) (n name at seed : ℕ) where
   here : (n == n) ≡ true
   here = eq-eqb n n refl
 
-  -- what it is once it took an answer
-  abbrev taken_dials : List Item → Dials → Dials
-  taken_dials [] d = d
-  taken_dials (i ∷ items) d = record (told_dials pace seed (i ∷ items) d) { is_asking = false }
+  pub started_told : (at : ℕ) (d : Dials) → dials_after pace n (telling.node_started n at) d ≡ new_dials at
+  started_told at d =
+      ap (λ b. record { peers = keys_after pace n (cond b (Some []) None) false d.peers; deadline = unwrap_or (cond b (Some at) None) d.deadline; asked_at = unwrap_or (cond b (Some at) None) d.asked_at; is_asking = unwrap_or (cond b (Some false) None) d.is_asking }) here
 
-  answer_told : (items : List Item) (d : Dials) → dials_told pace n (answer_tells n d.asked_at name at seed items) d ≡ taken_dials items d
-  answer_told [] d = refl
-  answer_told (item.Dialable next peers ∷ items) d =
-      ap (λ b. record {
+  -- it took a list
+  pub list_told : (asked name at seed : ℕ) (next : Option ℕ) (peers : List Key) (items : List Item) (d : Dials) → dials_told pace n (answer_tells n asked name at seed (item.Dialable next peers ∷ items)) d
+      ≡ record d { peers = in_drawn_order seed peers; deadline = next_deadline pace asked peers next; is_asking = false }
+  list_told asked name at seed next peers items d =
+      ap (λ b. record d {
         peers = keys_after pace n (cond b (Some (in_drawn_order seed peers)) None) false d.peers;
-        deadline = unwrap_or (cond b (Some (next_deadline pace d.asked_at peers next)) None) d.deadline;
-        asked_at = d.asked_at;
+        deadline = unwrap_or (cond b (Some (next_deadline pace asked peers next)) None) d.deadline;
         is_asking = unwrap_or (cond b (Some false) None) d.is_asking;
       }) here
-  answer_told (item.Dial (Some grant) ∷ items) d = ap (λ b. record d { is_asking = unwrap_or (cond b (Some false) None) d.is_asking }) here
-  answer_told (i ∷ items) d = ap (λ b. record d { is_asking = unwrap_or (cond b (Some false) None) d.is_asking }) here
 
-  abbrev dialed : (b : Bool) → Dials → Dials
-  dialed b d = record d { peers = cond b (without_last d.peers) d.peers; is_asking = unwrap_or (cond b (Some true) None) d.is_asking }
+  -- or that a dial was granted or refused
+  pub dial_told : (asked name at seed : ℕ) (grant : Option (Key × Ingress)) (items : List Item) (d : Dials) → dials_told pace n (answer_tells n asked name at seed (item.Dial grant ∷ items)) d ≡ record d { is_asking = false }
+  dial_told asked name at seed None items d = ap (λ b. record d { is_asking = unwrap_or (cond b (Some false) None) d.is_asking }) here
+  dial_told asked name at seed (Some grant) items d = ap (λ b. record d { is_asking = unwrap_or (cond b (Some false) None) d.is_asking }) here
 
-  abbrev asked : (b : Bool) → Dials → Dials
-  asked b d = record d { asked_at = unwrap_or (cond b (Some at) None) d.asked_at; is_asking = unwrap_or (cond b (Some true) None) d.is_asking }
+  -- it asked for the last of its keys, if there was one, once it took an answer
+  pub next_told : (at : ℕ) (i : Item) (items : List Item) (o : Option Key) (d : Dials) → dials_told pace n (ask_tells n at (i ∷ items) (dial_puts n o)) d ≡ elim o [ None ↦ d | Some k ↦ record d { peers = without_last d.peers; is_asking = true } ]
+  next_told at i items None d = refl
+  next_told at i items (Some k) d = ap (λ b. record d { peers = cond b (without_last d.peers) d.peers; is_asking = unwrap_or (cond b (Some true) None) d.is_asking }) here
 
-  ask_told : (items : List Item) (puts : List (Queue × Item)) (d : Dials) → works items puts ≡ true → dials_told pace n (ask_tells n at items puts) (taken_dials items d) ≡ stepped_dials pace at seed items puts d
-  ask_told [] ((q, item.AskDial k) ∷ puts) d h = ap (λ b. dialed b (record d { deadline = unwrap_or (cond b (Some (after_dial pace at)) None) d.deadline })) here
-  ask_told (i ∷ items) ((q, item.AskDial k) ∷ puts) d h = ap (λ b. dialed b (record (told_dials pace seed (i ∷ items) d) { is_asking = false })) here
-  ask_told [] ((q, item.AskDialable) ∷ puts) d h = ap (λ b. asked b d) here
-  ask_told (i ∷ items) ((q, item.AskDialable) ∷ puts) d h = ap (λ b. asked b (record (told_dials pace seed (i ∷ items) d) { is_asking = false })) here
-  ask_told [] _ d h = cc
-  ask_told (i ∷ items) _ d h = refl
+  -- or at its deadline
+  pub due_told : (at : ℕ) (k : Key) (d : Dials) → dials_told pace n (ask_tells n at [] (dial_puts n (Some k))) d ≡ record d { peers = without_last d.peers; deadline = after_dial pace at; is_asking = true }
+  due_told at k d =
+      ap (λ b. record d { peers = cond b (without_last d.peers) d.peers; deadline = unwrap_or (cond b (Some (after_dial pace at)) None) d.deadline; is_asking = unwrap_or (cond b (Some true) None) d.is_asking }) here
 
--- after its step, in which it took these and put these
-pub dials_of-stepped : (configs : List Config) (log : List Entry) (e : Entry) (n : ℕ) → e.event.act ≡ act.Dialer n → works (taken log e) e.puts ≡ true
-    → dials_of configs (log ++ e ∷ []) n ≡ stepped_dials (pace_at configs n) e.event.at e.event.seed (taken log e) e.puts (dials_of configs log n)
-unfolding tells dials_of
-dials_of-stepped configs log e n is h =
-    let pace : Pace = pace_at configs n in
+  -- it asked whom to dial
+  pub asked_told : (at : ℕ) (items : List Item) (q : Queue) (puts : List (Queue × Item)) (d : Dials) → dials_told pace n (ask_tells n at items ((q, item.AskDialable) ∷ puts)) d ≡ record d { asked_at = at; is_asking = true }
+  asked_told at items q puts d = ap (λ b. record d { asked_at = unwrap_or (cond b (Some at) None) d.asked_at; is_asking = unwrap_or (cond b (Some true) None) d.is_asking }) here
+
+-- at the start of its node
+pub dials_of-starts : (configs : List Config) (log : List Entry) (e : Entry) (n : ℕ) → e.event.act ≡ act.Start n → dials_of configs (log ++ e ∷ []) n ≡ new_dials e.event.at
+dials_of-starts configs log e n is = dials_of-act configs log e n (act.Start n) is ∙ started_told (pace_at configs n) n e.event.at (dials_of configs log n)
+
+-- after its step: first what it took is told, and then what it asked
+pub dials_of-stepped : (configs : List Config) (log : List Entry) (e : Entry) (n : ℕ) → e.event.act ≡ act.Dialer n → dials_of configs (log ++ e ∷ []) n
+    ≡ dials_told (pace_at configs n) n (ask_tells n e.event.at (taken log e) e.puts)
+    (dials_told (pace_at configs n) n (answer_tells n (dials_of configs log n).asked_at (length log) e.event.at e.event.seed (taken log e)) (dials_of configs log n))
+unfolding dials_of
+dials_of-stepped configs log e n is =
     let d : Dials = dials_of configs log n in
-    dials_of-append configs log e n
-    ∙ (ap (λ a. dials_told pace n (act_tells (told log) log (length log) e.event.at e.event.seed e.reply (taken log e) e.puts a) d) is
-    ∙ (told_append pace n (length log) e.event.at e.event.seed (answer_tells n d.asked_at (length log) e.event.at e.event.seed (taken log e)) (ask_tells n e.event.at (taken log e) e.puts) d
-    ∙ (ap (dials_told pace n (ask_tells n e.event.at (taken log e) e.puts)) (answer_told pace n (length log) e.event.at e.event.seed (taken log e) d)
-    ∙ ask_told pace n (length log) e.event.at e.event.seed (taken log e) e.puts d h)))
+    dials_of-act configs log e n (act.Dialer n) is
+    ∙ told_append (pace_at configs n) n (answer_tells n d.asked_at (length log) e.event.at e.event.seed (taken log e)) (ask_tells n e.event.at (taken log e) e.puts) d
 
 -- an entry whose act tells none of these
 pub dials_of-apart : (configs : List Config) (log : List Entry) (e : Entry) (n : ℕ) → are_apart (kinds_of e.event.act) dialer_kinds ≡ true → dials_of configs (log ++ e ∷ []) n ≡ dials_of configs log n

@@ -5,6 +5,7 @@ use Rattle.std.specs.List.{list_any}
 use Rattle.std.specs.Option.{option_map}
 use Rattle.std.proofs.lemmas.Grind.{flat_map-append}
 use Rattle.std.proofs.lemmas.List.Folds.{list_any-append}
+use Rattle.p2p_log_rules.proofs.Bools.{or_false}
 use Rattle.p2p_address.specs.declared.ip.IpAddr.{IpAddr}
 use Rattle.p2p_log.specs.declared.queue.Queue.{Queue}
 use Rattle.p2p_log.specs.declared.queue.Side.{Side}
@@ -17,7 +18,7 @@ use Rattle.p2p_log.specs.declared.entry.Reply.TheVariants as reply
 use Rattle.p2p_log.specs.declared.event.Act.{Act}
 use Rattle.p2p_log.specs.declared.event.Act.TheVariants as act
 use Rattle.p2p_log_rules.specs.declared.row.Half.{Half}
-use Rattle.p2p_log_rules.specs.Connections.{half_at, is_end}
+use Rattle.p2p_log_rules.specs.Connections.{half_at, is_done, is_end}
 use Rattle.p2p_log_rules.specs.Dropping.{LinkEnd, is_side, drops, is_dropped, drop_in, drops_in, drops_of, dialing_end, arrival_end, half_end}
 use Rattle.p2p_log_rules.specs.Facts.{taken, state_from}
 use Rattle.p2p_log_rules.specs.HalfSteps.{puts_ping, holds}
@@ -27,7 +28,7 @@ use Rattle.p2p_log_rules.specs.Puts.{is_spawn, gave_up, broke_off, is_answer, tu
 use Rattle.p2p_log_rules.specs.Spawning.{connections_of}
 use Rattle.p2p_log_rules.specs.Tellings.{Telling}
 use Rattle.p2p_log_rules.specs.Tellings as telling
-use Rattle.p2p_log_rules.specs.Told.{listening_dropped, pinged_tells, admitted_tells, judged_tells, heard_tells, when, done_tells, link_in, dialing_dropped, half_tells, end_tells, sender_tells, handshake_tells, admitted_as, begun_tells, arrival_tells, gates_tell, took_tells, left_tells, act_tells, tells, told}
+use Rattle.p2p_log_rules.specs.Told.{listening_dropped, received_tells, admitted_tells, judged_tells, heard_tells, when, done_tells, link_in, dialing_dropped, half_dropped, over_tells, sender_tells, handshake_tells, admitted_as, begun_tells, arrival_tells, gates_tell, took_tells, left_tells, act_tells, tells, told}
 use Rattle.p2p_log_rules.proofs.Families.{kind, kinds_of, has, are_apart, untold_of}
 use Rattle.p2p_log_rules.proofs.Tellings.{told-append}
 
@@ -54,10 +55,6 @@ is_dropped-append log e link s =
 pub is_dropped-none : (link : ℕ) (s : Side) → is_dropped [] link s ≡ false
 unfolding is_dropped told state_from
 is_dropped-none link s = refl
-
-or_false : (b : Bool) → (b || false) ≡ b
-or_false true = refl
-or_false false = refl
 
 -- where an entry drops none, those that were dropped are the same
 pub is_dropped-kept : (log : List Entry) (e : Entry) → drops_of log e ≡ [] → (link : ℕ) (s : Side) → is_dropped (log ++ e ∷ []) link s ≡ is_dropped log link s
@@ -86,30 +83,37 @@ left_drops n k link puts = by (gave_up puts) (list_any is_spawn puts) link
 drops_in-append : (ts us : List Telling) → drops_in (ts ++ us) ≡ drops_in ts ++ drops_in us
 drops_in-append ts us = flat_map-append drop_in ts us
 
-half_drops : (r : Reply) (o : Option Half) → drops_in (half_tells r o) ≡ all_of (cond (is_end r) (half_end o) None)
-half_drops (reply.Ended why) None = refl
-half_drops (reply.Ended why) (Some half) = refl
-half_drops _ o = refl
-
--- a ping drops none, nor does what is let in or heard
-ping_drops : (n conn at : ℕ) (r : Reply) (items : List Item) (puts : List (Queue × Item)) → drops_in (done_tells r (pinged_tells n conn at items puts)) ≡ []
-ping_drops n conn at reply.Ok items puts = by (list_any is_answer items) (puts_ping items puts)
+-- a half drops the end to which it writes where it ends its connection
+over_drops : (n conn : ℕ) (r : Reply) (o : Option Half) → drops_in (over_tells n conn r o) ≡ all_of (cond (is_end r) (half_end o) None)
+over_drops n conn r o = by (is_end r) o
   where
-    by : (runs pings : Bool) → drops_in (when runs (telling.connection_ran n conn at ∷ []) ++ when pings (telling.ping_put n conn at ∷ [])) ≡ []
-    by true true = refl
-    by true false = refl
-    by false true = refl
-    by false false = refl
-ping_drops n conn at _ items puts = refl
+    by : (b : Bool) (o : Option Half) → drops_in (when b (telling.connection_ended n conn ∷ half_dropped o)) ≡ all_of (cond b (half_end o) None)
+    by true None = refl
+    by true (Some half) = refl
+    by false o = refl
+
+-- and what else it tells drops none
+sender_drops : (n conn at : ℕ) (r : Reply) (items : List Item) (puts : List (Queue × Item)) → drops_in (done_tells r (sender_tells n conn at items puts)) ≡ []
+sender_drops n conn at r items puts = by (is_done r) (list_any is_answer items) (puts_ping items puts)
+  where
+    by : (done runs pings : Bool) → drops_in (when done (telling.half_stepped n conn ∷ (when runs (telling.connection_ran n conn at ∷ []) ++ when pings (telling.ping_put n conn at ∷ [])))) ≡ []
+    by false runs pings = refl
+    by true true true = refl
+    by true true false = refl
+    by true false true = refl
+    by true false false = refl
 
 let_in_drops : (n conn at : ℕ) (r : Reply) (items : List Item) (puts : List (Queue × Item)) → drops_in (admitted_tells n conn at r items puts) ≡ []
-let_in_drops n conn at (reply.Ended why) items puts = refl
-let_in_drops n conn at _ [] puts = refl
-let_in_drops n conn at _ (i ∷ items) puts = by (holds puts)
+let_in_drops n conn at r items puts = by (is_end r) items
   where
-    by : (b : Bool) → drops_in (when (not b) (telling.item_admitted n conn at i ∷ [])) ≡ []
-    by true = refl
-    by false = refl
+    by : (ended : Bool) (items : List Item) → drops_in (when (not ended) (received_tells n conn at items puts)) ≡ []
+    by true items = refl
+    by false [] = refl
+    by false (i ∷ items) = let_in (holds puts)
+      where
+        let_in : (b : Bool) → drops_in (when (not b) (telling.item_admitted n conn at i ∷ [])) ≡ []
+        let_in true = refl
+        let_in false = refl
 
 judged_drops : (n at : ℕ) (from : IpAddr) (r : Reply) → drops_in (judged_tells n at from r) ≡ []
 judged_drops n at from (reply.Gates g) = refl
@@ -122,22 +126,6 @@ heard_drops n at r _ = refl
 
 drops_before : (ts us : List Telling) → drops_in us ≡ [] → drops_in (ts ++ us) ≡ drops_in ts
 drops_before ts us none = drops_in-append ts us ∙ (ap (λ l. drops_in ts ++ l) none ∙ append-nil (drops_in ts))
-
--- what a half tells of its connection besides
-over_drops : (n conn : ℕ) (r : Reply) (o : Option Half) → drops_in (end_tells n conn r ++ half_tells r o) ≡ all_of (cond (is_end r) (half_end o) None)
-over_drops n conn (reply.Ended why) o = half_drops (reply.Ended why) o
-over_drops n conn _ o = refl
-
-sender_drops : (n conn : ℕ) (r : Reply) (items : List Item) → drops_in (sender_tells n conn r items) ≡ []
-sender_drops n conn r items = drops_in-append (done_tells r (telling.half_stepped n conn ∷ [])) (when (list_any is_answer items) (telling.answer_heard n conn ∷ [])) ∙ by r (list_any is_answer items)
-  where
-    answer : (b : Bool) → drops_in (when b (telling.answer_heard n conn ∷ [])) ≡ []
-    answer true = refl
-    answer false = refl
-
-    by : (r : Reply) (b : Bool) → drops_in (done_tells r (telling.half_stepped n conn ∷ [])) ++ drops_in (when b (telling.answer_heard n conn ∷ [])) ≡ []
-    by reply.Ok b = answer b
-    by _ b = answer b
 
 -- what a handshake tells besides
 handshake_drops : (n h over : ℕ) (ended broke : Bool) (link : ℕ) (items : List Item)
@@ -190,16 +178,14 @@ module _ (log : List Entry) (e : Entry) where
   unfolding half_at connections_of
   drops_of-send conn n is =
       tells_act (act.SendStep conn n) is
-      ∙ (drops_before (sender_tells n conn e.reply (taken log e) ++ (end_tells n conn e.reply ++ half_tells e.reply (half_in (told log) n conn))) (done_tells e.reply (pinged_tells n conn e.event.at (taken log e) e.puts)) (ping_drops n conn e.event.at e.reply (taken log e) e.puts)
-      ∙ (drops_in-append (sender_tells n conn e.reply (taken log e)) (end_tells n conn e.reply ++ half_tells e.reply (half_in (told log) n conn))
-      ∙ (ap (λ l. l ++ drops_in (end_tells n conn e.reply ++ half_tells e.reply (half_in (told log) n conn))) (sender_drops n conn e.reply (taken log e))
-      ∙ over_drops n conn e.reply (half_at log n conn))))
+      ∙ (drops_before (over_tells n conn e.reply (half_in (told log) n conn)) (done_tells e.reply (sender_tells n conn e.event.at (taken log e) e.puts)) (sender_drops n conn e.event.at e.reply (taken log e) e.puts)
+      ∙ over_drops n conn e.reply (half_at log n conn))
 
   pub drops_of-receive : (conn n : ℕ) → e.event.act ≡ act.RecvStep conn n → drops_of log e ≡ all_of (cond (is_end e.reply) (half_end (half_at log n conn)) None)
   unfolding half_at connections_of
   drops_of-receive conn n is =
       tells_act (act.RecvStep conn n) is
-      ∙ (drops_before (end_tells n conn e.reply ++ half_tells e.reply (half_in (told log) n conn)) (admitted_tells n conn e.event.at e.reply (taken log e) e.puts) (let_in_drops n conn e.event.at e.reply (taken log e) e.puts)
+      ∙ (drops_before (over_tells n conn e.reply (half_in (told log) n conn)) (admitted_tells n conn e.event.at e.reply (taken log e) e.puts) (let_in_drops n conn e.event.at e.reply (taken log e) e.puts)
       ∙ over_drops n conn e.reply (half_at log n conn))
 
   -- a step that turns an arrival away drops its end

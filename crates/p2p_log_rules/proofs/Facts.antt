@@ -6,9 +6,8 @@ use Rattle.p2p_log.specs.declared.config.Config.{Config}
 use Rattle.p2p_log.specs.declared.event.Event.{Event}
 use Rattle.p2p_log.specs.declared.entry.Entry.{Entry}
 use Rattle.p2p_log_rules.specs.Facts.{events_of, starts, has_started, registers_at, registered}
-pub use Rattle.p2p_log_rules.proofs.Taking.{or-false, list_any-last, history_from-append, state_from-append}
+pub use Rattle.p2p_log_rules.proofs.Taking.{list_any-last, history_from-append, state_from-append}
 use Rattle.p2p_log_rules.proofs.Taking.{flat_map-last}
-pub use Rattle.p2p_log_rules.proofs.Routing.{subscribers-append, routes-append}
 
 pub events_of-append : (log : List Entry) (e : Entry) → events_of (log ++ e ∷ []) ≡ events_of log ++ e.event ∷ []
 events_of-append log e = map-append (λ (d : Entry). d.event) log (e ∷ [])

@@ -39,7 +39,6 @@ kind (telling.handshake_begun m h) = 23
 kind (telling.handshake_took m h items) = 24
 kind (telling.handshake_ended m h link) = 25
 kind (telling.half_stepped m conn) = 26
-kind (telling.answer_heard m conn) = 27
 kind (telling.connection_ended m conn) = 28
 kind (telling.blocks_ended m at) = 60
 kind (telling.set_asked m index primary secondary) = 61
@@ -74,7 +73,7 @@ kinds_of (act.Tracker m) = 60 ∷ 61 ∷ 62 ∷ 63 ∷ 64 ∷ 65 ∷ 66 ∷ 67 �
 kinds_of (act.Send bytes c m priority to) = 43 ∷ []
 kinds_of (act.Check c m to) = 43 ∷ 44 ∷ []
 kinds_of (act.SendChecked bytes check priority) = 45 ∷ []
-kinds_of (act.SendStep conn m) = 14 ∷ 26 ∷ 27 ∷ 28 ∷ 40 ∷ 41 ∷ []
+kinds_of (act.SendStep conn m) = 14 ∷ 26 ∷ 28 ∷ 40 ∷ 41 ∷ []
 kinds_of (act.RecvStep conn m) = 14 ∷ 28 ∷ 42 ∷ []
 kinds_of (act.Close c m) = 46 ∷ []
 kinds_of (act.Dialer m) = 2 ∷ 3 ∷ 4 ∷ 5 ∷ 6 ∷ 7 ∷ []
@@ -114,7 +113,7 @@ within name at (act.Tracker m) = record {
 within name at (act.Send bytes c m priority to) = λ keys. refl
 within name at (act.Check c m to) = (λ keys. refl, λ keys. refl)
 within name at (act.SendChecked bytes check priority) = refl
-within name at (act.SendStep conn m) = (record { step = refl; answer = refl; ends = record { over = refl; drops = λ link s. refl } }, record { runs = refl; pings = refl })
+within name at (act.SendStep conn m) = (record { over = refl; drops = λ link s. refl }, record { step = refl; runs = refl; pings = refl })
 within name at (act.RecvStep conn m) = (record { over = refl; drops = λ link s. refl }, λ i. refl)
 within name at (act.Close c m) = refl
 within name at (act.Dialer m) = record { list = λ asked seed next peers. refl; answer = refl; begun = λ key ingress. refl; due = refl; dials = refl; asks = refl }

@@ -37,7 +37,7 @@ use Rattle.p2p_log_rules.specs.Rows.{only, is_spawner_full, takes_oldest}
 use Rattle.p2p_log_rules.specs.Serving.{tracker_serves, router_serves, spawner_serves, dialer_serves, listener_serves, attempt_serves, handshake_serves, sender_serves, receiver_serves, actor_row}
 use Rattle.p2p_log_rules.specs.Spawning.{spawner_row}
 use Rattle.p2p_log_rules.specs.TrackerPuts.{is_some_of, unblocked_puts}
-use Rattle.p2p_log_rules.specs.TrackerRows.{told_row, served_row, tracker_row}
+use Rattle.p2p_log_rules.specs.TrackerRows.{tracker_told_row, served_row, tracker_row}
 use Rattle.p2p_log_rules.specs.Tracking.{key_cmp, rules_at, calls_of, update_subscriptions, blocked_subscriptions}
 use Rattle.p2p_tracker_calls.specs.BlockedKeys.{due_keys}
 use Rattle.p2p_tracker_calls.specs.declared.call.Call.TheVariants as call
@@ -48,7 +48,7 @@ module _ (configs : List Config) (log : List Entry) (at seed n : ℕ) where
     where
       by : (up blocks : Bool) (xs : List Envelope) → cond up
           (cond blocks
-          (told_row log []
+          (tracker_told_row log []
           (unblocked_puts (rules_at configs n) n at (update_subscriptions log n) (blocked_subscriptions log n) (calls_of configs log n) (call.UnblockExpired at)))
           (served_row configs log n at xs))
           (only reply.Gone)
@@ -140,7 +140,7 @@ module _ (configs : List Config) (log : List Entry) (at seed n conn : ℕ) where
   unwritten half false = refl
 
   batches : (half : Half) (cs hs ls : List Envelope) → line log (queue.High n conn) ≡ hs → line log (queue.Low n conn) ≡ ls
-      → effect.told_row log n conn half cs (nat_lt 0 (batch_size_at configs n))
+      → effect.told_to_end_row log n conn half cs (nat_lt 0 (batch_size_at configs n))
       (written_row log n conn half (is_dropped log half.link (other_side half.writes)) false (batch log n conn (batch_size_at configs n)))
       ≡ by_input (sender_serves configs log n conn (Some half))
       (first_of
@@ -168,7 +168,7 @@ module _ (configs : List Config) (log : List Entry) (at seed n conn : ℕ) where
       take_none (suc k) = refl
 
       by : (room : Bool) → nat_lt 0 size ≡ room → (cs hs ls : List Envelope) → line log (queue.High n conn) ≡ hs → line log (queue.Low n conn) ≡ ls
-          → effect.told_row log n conn half cs room all
+          → effect.told_to_end_row log n conn half cs room all
           ≡ by_input (sender_serves configs log n conn (Some half))
           (first_of (None ∷ only_where room (oldest_of (queue.Control n conn) cs ∷ oldest_of (queue.High n conn) hs ∷ oldest_of (queue.Low n conn) ls ∷ [])))
       by true fits (x ∷ xs) hs ls high low = refl

@@ -1,5 +1,5 @@
 -- The handshakes of a node after one more entry, and that each name stands once among them, which is that of an earlier entry.
-use Rattle.std.proofs.Common.{◌≡◌, ℕ, zero, suc, ◌+◌, ◌≤◌, Bool, true, false, cond, List, [], ◌∷◌, ◌++◌, length, refl, ap, sym, subst, ◌∙◌, arith, append-nil, length-append, Some, None}
+use Rattle.std.proofs.Common.{◌≡◌, ℕ, zero, suc, ◌+◌, ◌≤◌, Bool, true, false, cond, List, [], ◌∷◌, ◌++◌, length, refl, ap, sym, subst, ◌∙◌, arith, eq-eqb, eqb-true, append-nil, length-append, Option, Some, None, ◌⊎◌, inl, inr}
 use Rattle.std.specs.Prelude.{◌==◌, ◌&&◌, ◌||◌, not, filter, count_by, nat_lt}
 use Rattle.std.specs.List.{list_any}
 use Rattle.std.proofs.lemmas.Bool.Decides.{nat_tests}
@@ -15,139 +15,165 @@ use Rattle.p2p_log.specs.declared.entry.Reply.TheVariants as reply
 use Rattle.p2p_log.specs.declared.event.Act.{Act}
 use Rattle.p2p_log.specs.declared.event.Act.TheVariants as act
 use Rattle.p2p_log_rules.specs.Facts.{taken, state_from}
-use Rattle.p2p_log_rules.specs.HandshakeEntries.{steps_handshake, with_admitted, without_name, unless_ended, acted_handshakes, handshakes_by, took_by}
-use Rattle.p2p_log_rules.specs.Handshakes.{ends_handshake, peer_at, begins_handshake, ends_named, handshakes_of, is_handshaking, takes_such, has_taken}
+use Rattle.p2p_log_rules.specs.Handshakes.{ends_handshake, peer_at, begins_handshake, ends_named, handshakes_of, is_handshaking}
 use Rattle.p2p_log_rules.specs.Puts.{broke_off}
 use Rattle.p2p_log_rules.specs.Standing.{standing}
-use Rattle.p2p_log_rules.specs.Tellings.{Telling, any_or}
+use Rattle.p2p_log_rules.specs.Tellings.{Telling}
 use Rattle.p2p_log_rules.specs.Tellings as telling
-use Rattle.p2p_log_rules.specs.Told.{when, admitted_as, begun_tells, arrival_tells, handshake_tells, gates_tell, heard_tells, act_tells, tells, told}
+use Rattle.p2p_log_rules.specs.Told.{when, admitted_as, begun_tells, arrival_tells, handshake_tells, gates_tell, heard_tells, tells, told}
 use Rattle.p2p_log_rules.proofs.Families.{kind, kinds_of, has, are_apart, untold_of}
-use Rattle.p2p_log_rules.proofs.Ignoring.{any_or-none, either_same, by_entries}
+use Rattle.p2p_log_rules.proofs.Ignoring.{by_entries}
+use Rattle.p2p_log_rules.proofs.LinkTells.{tells_act, quiet_told}
 use Rattle.p2p_log_rules.proofs.Standing.{started, stood_after, stood_told, standing-more, stood_append, same_filter, same_stood, others_stood}
-use Rattle.p2p_log_rules.proofs.Tellings.{told-append, any_or-append, when_quiet}
+use Rattle.p2p_log_rules.proofs.Tellings.{told-append, when_quiet}
 use Rattle.p2p_log_rules.proofs.Told.{arrival_quiet, gates_quiet, heard_quiet}
 
--- ---- by the act of one entry more
+-- these without the one of a name
+abbrev pub without_name : ℕ → List ℕ → List ℕ
+without_name name names = filter (λ k. not (k == name)) names
+
+-- ---- one entry more
+
+-- the kinds of tellings by which a handshake begins and ends
+abbrev pub handshake_kinds : List ℕ
+handshake_kinds = 23 ∷ 25 ∷ []
+
+-- a telling of the beginning or the end of a handshake of a node
+abbrev pub of_handshakes : ℕ → Telling → Bool
+of_handshakes n (telling.handshake_begun m h) = m == n
+of_handshakes n (telling.handshake_ended m h link) = m == n
+of_handshakes n _ = false
+
+handshake_reads : (n : ℕ) (t : Telling) → has handshake_kinds (kind t) ≡ false → of_handshakes n t ≡ false
+handshake_reads n (telling.handshake_begun m h) is = cc
+handshake_reads n (telling.handshake_ended m h link) is = cc
+handshake_reads n _ is = refl
 
 module _ (n : ℕ) where
-  abbrev of_handshakes : Telling → Bool
-  of_handshakes (telling.handshake_begun m h) = m == n
-  of_handshakes (telling.handshake_ended m h link) = m == n
-  of_handshakes _ = false
-
-  handshake_kinds : (t : Telling) → has (23 ∷ 25 ∷ []) (kind t) ≡ false → of_handshakes t ≡ false
-  handshake_kinds (telling.handshake_begun m h) is = cc
-  handshake_kinds (telling.handshake_ended m h link) is = cc
-  handshake_kinds _ is = refl
-
-  abbrev after : Telling → List ℕ → List ℕ
-  after t names = stood_after (begins_handshake n) (ends_named n) t names
-
   abbrev after_all : List Telling → List ℕ → List ℕ
   after_all ts names = stood_told (begins_handshake n) (ends_named n) ts names
 
-  other_after : (t : Telling) (names : List ℕ) → of_handshakes t ≡ false → after t names ≡ names
+  other_after : (t : Telling) (names : List ℕ) → of_handshakes n t ≡ false → stood_after (begins_handshake n) (ends_named n) t names ≡ names
   other_after (telling.handshake_begun m h) names is = ap (λ b. filter (λ k. true) names ++ started (cond b (Some h) None)) is ∙ same_stood names
   other_after (telling.handshake_ended m h link) names is = ap (λ b. filter (λ k. not (b && (k == h))) names ++ []) is ∙ same_stood names
   other_after _ names is = same_stood names
 
-  others_after : (ts : List Telling) (names : List ℕ) → list_any of_handshakes ts ≡ false → after_all ts names ≡ names
-  others_after ts names h = others_stood (begins_handshake n) (ends_named n) of_handshakes other_after ts names h
+  others_after : (ts : List Telling) (names : List ℕ) → list_any (of_handshakes n) ts ≡ false → after_all ts names ≡ names
+  others_after ts names h = others_stood (begins_handshake n) (ends_named n) (of_handshakes n) other_after ts names h
 
-  admitted_after : (m name : ℕ) (r : Reply) (names : List ℕ) → after_all (begun_tells m (admitted_as name r)) names ≡ cond (m == n) (with_admitted name r names) names
-  admitted_after m name (reply.Gates gates.Admitted) names = by (m == n)
+  -- what others tell after these
+  before_others : (ts us : List Telling) (names : List ℕ) → list_any (of_handshakes n) us ≡ false → after_all (ts ++ us) names ≡ after_all ts names
+  before_others ts us names h = stood_append (begins_handshake n) (ends_named n) ts us names ∙ others_after us (after_all ts names) h
+
+  -- and before
+  after_others : (ts us : List Telling) (names : List ℕ) → list_any (of_handshakes n) ts ≡ false → after_all (ts ++ us) names ≡ after_all us names
+  after_others ts us names h = stood_append (begins_handshake n) (ends_named n) ts us names ∙ ap (after_all us) (others_after ts names h)
+
+  begun_after : (o : Option ℕ) (names : List ℕ) → after_all (begun_tells n o) names ≡ names ++ started o
+  begun_after None names = sym (append-nil names)
+  begun_after (Some h) names = ap (λ b. filter (λ k. true) names ++ started (cond b (Some h) None)) (eq-eqb n n refl) ∙ ap (λ l. l ++ h ∷ []) (same_filter names)
+
+  listened_after : (name at : ℕ) (r : Reply) (items : List Item) (names : List ℕ)
+      → after_all ((arrival_tells n (admitted_as name r) items ++ (begun_tells n (admitted_as name r) ++ gates_tell r items)) ++ heard_tells n at r items) names ≡ names ++ started (admitted_as name r)
+  listened_after name at r items names =
+      before_others (arrival_tells n (admitted_as name r) items ++ (begun_tells n (admitted_as name r) ++ gates_tell r items)) (heard_tells n at r items) names
+      (heard_quiet (of_handshakes n) name at n r items (record { update = λ addresses. refl; arrival = λ from g. refl }))
+      ∙ (after_others (arrival_tells n (admitted_as name r) items) (begun_tells n (admitted_as name r) ++ gates_tell r items) names (arrival_quiet (of_handshakes n) name 0 n (admitted_as name r) items (λ link o. refl))
+      ∙ (before_others (begun_tells n (admitted_as name r)) (gates_tell r items) names (gates_quiet (of_handshakes n) name 0 r items (λ link. refl)) ∙ begun_after (admitted_as name r) names))
+
+  shaken_after : (h link : ℕ) (over broke : Bool) (items : List Item) (names : List ℕ)
+      → after_all (handshake_tells n h link over items ++ when broke (telling.end_dropped link side.In ∷ [])) names ≡ cond over (without_name h names) names
+  shaken_after h link over broke items names =
+      before_others (handshake_tells n h link over items) (when broke (telling.end_dropped link side.In ∷ [])) names (when_quiet (of_handshakes n) broke (telling.end_dropped link side.In ∷ []) refl) ∙ by over
     where
-      by : (b : Bool) → filter (λ k. true) names ++ started (cond b (Some name) None) ≡ cond b (names ++ name ∷ []) names
-      by true = ap (λ l. l ++ name ∷ []) (same_filter names)
+      by : (over : Bool) → after_all (handshake_tells n h link over items) names ≡ cond over (without_name h names) names
+      by true =
+          ap (λ l. stood_after (begins_handshake n) (ends_named n) (telling.handshake_ended n h link) l) (same_stood names)
+          ∙ (ap (λ b. filter (λ k. not (b && (k == h))) names ++ []) (eq-eqb n n refl) ∙ append-nil (without_name h names))
       by false = same_stood names
-  admitted_after m name (reply.Gates _) names = either_same (m == n) names
-  admitted_after m name _ names = either_same (m == n) names
 
-  listened_after : (m name : ℕ) (r : Reply) (items : List Item) (names : List ℕ)
-      → after_all (arrival_tells m (admitted_as name r) items ++ (begun_tells m (admitted_as name r) ++ gates_tell r items)) names ≡ cond (m == n) (with_admitted name r names) names
-  listened_after m name r items names =
-      let begins = begins_handshake n in
-      let ends = ends_named n in
-      stood_append begins ends (arrival_tells m (admitted_as name r) items) (begun_tells m (admitted_as name r) ++ gates_tell r items) names
-      ∙ (ap (λ l. after_all (begun_tells m (admitted_as name r) ++ gates_tell r items) l)
-      (others_after (arrival_tells m (admitted_as name r) items) names (arrival_quiet of_handshakes name 0 m (admitted_as name r) items (λ link o. refl)))
-      ∙ (stood_append begins ends (begun_tells m (admitted_as name r)) (gates_tell r items) names
-      ∙ (others_after (gates_tell r items) (after_all (begun_tells m (admitted_as name r)) names) (gates_quiet of_handshakes name 0 r items (λ link. refl))
-      ∙ admitted_after m name r names)))
+module _ (log : List Entry) (e : Entry) (n : ℕ) where
+  abbrev hs : List ℕ
+  hs = handshakes_of log n
 
-  shaken_after : (m h link : ℕ) (over broke : Bool) (items : List Item) (names : List ℕ)
-      → after_all (handshake_tells m h link over items ++ when broke (telling.end_dropped link side.In ∷ [])) names ≡ cond (m == n) (unless_ended over h names) names
-  shaken_after m h link over broke items names =
-      stood_append (begins_handshake n) (ends_named n) (handshake_tells m h link over items) (when broke (telling.end_dropped link side.In ∷ [])) names
-      ∙ (others_after (when broke (telling.end_dropped link side.In ∷ [])) (after_all (handshake_tells m h link over items) names)
-      (when_quiet of_handshakes broke (telling.end_dropped link side.In ∷ []) refl)
-      ∙ by over)
+  pub handshakes_of-append : handshakes_of (log ++ e ∷ []) n ≡ stood_told (begins_handshake n) (ends_named n) (tells (told log) log e) (handshakes_of log n)
+  unfolding handshakes_of
+  handshakes_of-append = ap (standing (begins_handshake n) (ends_named n)) (told-append log e) ∙ standing-more (begins_handshake n) (ends_named n) (told log) (tells (told log) log e)
+
+  -- an entry that tells of none leaves them alone
+  pub handshakes_of-kept : list_any (of_handshakes n) (tells (told log) log e) ≡ false → handshakes_of (log ++ e ∷ []) n ≡ handshakes_of log n
+  handshakes_of-kept none = handshakes_of-append ∙ others_after n (tells (told log) log e) hs none
+
+  -- as where its act tells of others
+  pub handshakes_of-apart : are_apart (kinds_of e.event.act) handshake_kinds ≡ true → handshakes_of (log ++ e ∷ []) n ≡ handshakes_of log n
+  handshakes_of-apart apart = handshakes_of-kept (untold_of (of_handshakes n) handshake_kinds (handshake_reads n) (told log) log e apart)
+
+  -- or is of the listener, or a handshake, of another node
+  pub handshakes_of-elsewhere : (m : ℕ) → (m == n) ≡ false → e.event.act ≡ act.Listener m → handshakes_of (log ++ e ∷ []) n ≡ handshakes_of log n
+  handshakes_of-elsewhere m other acts =
+      handshakes_of-kept (quiet_told (told log) log e (of_handshakes n) (act.Listener m) acts (record { took = λ link o. refl; begun = other; drops = λ link. refl }, record { update = λ addresses. refl; arrival = λ from g. refl }))
+
+  pub handshakes_of-another : (h m : ℕ) → (m == n) ≡ false → e.event.act ≡ act.Handshake h m → handshakes_of (log ++ e ∷ []) n ≡ handshakes_of log n
+  handshakes_of-another h m other acts =
+      handshakes_of-kept (quiet_told (told log) log e (of_handshakes n) (act.Handshake h m) acts (record { took = λ items. refl; over = λ link. other; drops = λ link. refl }))
+
+  -- a step of the listener begins the one that it admits
+  pub handshakes_of-listened : e.event.act ≡ act.Listener n → handshakes_of (log ++ e ∷ []) n ≡ handshakes_of log n ++ started (admitted_as (length log) e.reply)
+  handshakes_of-listened acts = handshakes_of-append ∙ (ap (λ us. after_all n us hs) (tells_act (told log) log e (act.Listener n) acts) ∙ listened_after n (length log) e.event.at e.reply (taken log e) hs)
+
+  -- a step of a handshake may end it
+  pub handshakes_of-shaken : (h : ℕ) → e.event.act ≡ act.Handshake h n → handshakes_of (log ++ e ∷ []) n ≡ cond (ends_handshake e.reply (taken log e)) (without_name h (handshakes_of log n)) (handshakes_of log n)
+  handshakes_of-shaken h acts =
+      handshakes_of-append
+      ∙ (ap (λ us. after_all n us hs) (tells_act (told log) log e (act.Handshake h n) acts)
+      ∙ shaken_after n h (peer_at log h).link (ends_handshake e.reply (taken log e)) (broke_off e.reply (taken log e) e.puts) (taken log e) hs)
+
+  -- so the entry begins one of its name
+  pub record Begins : Type 0 where
+    pub acts : e.event.act ≡ act.Listener n
+    pub replied : e.reply ≡ reply.Gates gates.Admitted
+    pub now : handshakes_of (log ++ e ∷ []) n ≡ handshakes_of log n ++ length log ∷ []
+
+  -- or ends one
+  pub record Ends : Type 0 where
+    pub name : ℕ
+    pub acts : e.event.act ≡ act.Handshake name n
+    pub over : ends_handshake e.reply (taken log e) ≡ true
+    pub now : handshakes_of (log ++ e ∷ []) n ≡ without_name name (handshakes_of log n)
+
+  -- or leaves them alone
+  pub handshakes_now : (handshakes_of (log ++ e ∷ []) n ≡ handshakes_of log n) ⊎ (Begins ⊎ Ends)
+  handshakes_now = by e.event.act refl
     where
-      ended : (b : Bool) → filter (λ k. not (b && (k == h))) names ++ [] ≡ cond b (without_name h names) names
-      ended true = append-nil (without_name h names)
-      ended false = same_stood names
+      Now : Type 0
+      Now = (handshakes_of (log ++ e ∷ []) n ≡ handshakes_of log n) ⊎ (Begins ⊎ Ends)
 
-      by : (over : Bool) → after_all (handshake_tells m h link over items) names ≡ cond (m == n) (unless_ended over h names) names
-      by true = ap (λ l. after (telling.handshake_ended m h link) l) (same_stood names) ∙ ended (m == n)
-      by false = same_stood names ∙ either_same (m == n) names
+      begins : e.event.act ≡ act.Listener n → (r : Reply) → e.reply ≡ r → handshakes_of (log ++ e ∷ []) n ≡ handshakes_of log n ++ started (admitted_as (length log) r) → Now
+      begins acts (reply.Gates gates.Admitted) is now = inr (inl (record { acts = acts; replied = is; now = now }))
+      begins acts (reply.Gates _) is now = inl (now ∙ append-nil hs)
+      begins acts _ is now = inl (now ∙ append-nil hs)
 
-  after_act : (ts : List Telling) (log : List Entry) (e : Entry) (names : List ℕ) (a : Act) → e.event.act ≡ a → after_all (tells ts log e) names ≡ acted_handshakes n (length log) e.reply (taken log e) a names
-  unfolding tells
-  after_act ts log e names (act.Listener m) is =
-      ap (λ b. after_all (act_tells ts log (length log) e.event.at e.event.seed e.reply (taken log e) e.puts b) names) is
-      ∙ (stood_append (begins_handshake n) (ends_named n) (arrival_tells m (admitted_as (length log) e.reply) (taken log e) ++ (begun_tells m (admitted_as (length log) e.reply) ++ gates_tell e.reply (taken log e))) (heard_tells m e.event.at e.reply (taken log e)) names
-      ∙ (others_after (heard_tells m e.event.at e.reply (taken log e)) (after_all (arrival_tells m (admitted_as (length log) e.reply) (taken log e) ++ (begun_tells m (admitted_as (length log) e.reply) ++ gates_tell e.reply (taken log e))) names) (heard_quiet of_handshakes (length log) e.event.at m e.reply (taken log e) (record { update = λ addresses. refl; arrival = λ from g. refl }))
-      ∙ listened_after m (length log) e.reply (taken log e) names))
-  after_act ts log e names (act.Handshake h m) is =
-      ap (λ b. after_all (act_tells ts log (length log) e.event.at e.event.seed e.reply (taken log e) e.puts b) names) is
-      ∙ shaken_after m h (peer_at log h).link (ends_handshake e.reply (taken log e)) (broke_off e.reply (taken log e) e.puts) (taken log e) names
-  after_act ts log e names a is = others_after (tells ts log e) names (untold_of of_handshakes (23 ∷ 25 ∷ []) handshake_kinds ts log e (ap (λ b. are_apart (kinds_of b) (23 ∷ 25 ∷ [])) is))
+      shakes : (h : ℕ) → e.event.act ≡ act.Handshake h n → (b : Bool) → ends_handshake e.reply (taken log e) ≡ b → handshakes_of (log ++ e ∷ []) n ≡ cond b (without_name h hs) hs → Now
+      shakes h acts true over now = inr (inr (record { name = h; acts = acts; over = over; now = now }))
+      shakes h acts false over now = inl now
 
-pub handshakes_of-append : (log : List Entry) (e : Entry) (n : ℕ) → handshakes_of (log ++ e ∷ []) n ≡ handshakes_by n log e (handshakes_of log n)
-unfolding handshakes_of
-handshakes_of-append log e n =
-    ap (standing (begins_handshake n) (ends_named n)) (told-append log e)
-    ∙ (standing-more (begins_handshake n) (ends_named n) (told log) (tells (told log) log e) ∙ after_act n (told log) log e (handshakes_of log n) e.event.act refl)
+      listener : (m : ℕ) → e.event.act ≡ act.Listener m → (b : Bool) → (m == n) ≡ b → Now
+      listener m acts true at = let here : e.event.act ≡ act.Listener n = acts ∙ ap act.Listener (eqb-true m n at) in begins here e.reply refl (handshakes_of-listened here)
+      listener m acts false other = inl (handshakes_of-elsewhere m other acts)
+
+      shaken : (h m : ℕ) → e.event.act ≡ act.Handshake h m → (b : Bool) → (m == n) ≡ b → Now
+      shaken h m acts true at =
+          let here : e.event.act ≡ act.Handshake h n = acts ∙ ap (act.Handshake h) (eqb-true m n at) in shakes h here (ends_handshake e.reply (taken log e)) refl (handshakes_of-shaken h here)
+      shaken h m acts false other = inl (handshakes_of-another h m other acts)
+
+      by : (a : Act) → e.event.act ≡ a → Now
+      by (act.Listener m) acts = listener m acts (m == n) refl
+      by (act.Handshake h m) acts = shaken h m acts (m == n) refl
+      by a acts = inl (handshakes_of-apart (ap (λ b. are_apart (kinds_of b) handshake_kinds) acts))
 
 pub handshakes_of-none : (n : ℕ) → handshakes_of [] n ≡ []
 unfolding handshakes_of standing told state_from
 handshakes_of-none n = refl
-
-pub handshakes_of-kept : (log : List Entry) (e : Entry) (n : ℕ) → handshakes_by n log e (handshakes_of log n) ≡ handshakes_of log n → handshakes_of (log ++ e ∷ []) n ≡ handshakes_of log n
-handshakes_of-kept log e n h = handshakes_of-append log e n ∙ h
-
-module _ (test : List Item → Bool) (n name : ℕ) where
-  took_kinds : (t : Telling) → has (24 ∷ []) (kind t) ≡ false → takes_such test n name t ≡ false
-  took_kinds (telling.handshake_took m h items) is = cc
-  took_kinds _ is = refl
-
-  shaken_took : (m h link : ℕ) (over broke : Bool) (items : List Item) (took : Bool)
-      → any_or took (takes_such test n name) (handshake_tells m h link over items ++ when broke (telling.end_dropped link side.In ∷ [])) ≡ ((((m == n) && (h == name)) && test items) || took)
-  shaken_took m h link true true items took = refl
-  shaken_took m h link true false items took = refl
-  shaken_took m h link false true items took = refl
-  shaken_took m h link false false items took = refl
-
-  took_act : (ts : List Telling) (log : List Entry) (e : Entry) (took : Bool) (a : Act) → e.event.act ≡ a
-      → any_or took (takes_such test n name) (tells ts log e) ≡ ((steps_handshake n name a && test (taken log e)) || took)
-  unfolding tells
-  took_act ts log e took (act.Handshake h m) is =
-      ap (λ b. any_or took (takes_such test n name) (act_tells ts log (length log) e.event.at e.event.seed e.reply (taken log e) e.puts b)) is
-      ∙ shaken_took m h (peer_at log h).link (ends_handshake e.reply (taken log e)) (broke_off e.reply (taken log e) e.puts) (taken log e) took
-  took_act ts log e took a is =
-      any_or-none took (takes_such test n name) (tells ts log e) (untold_of (takes_such test n name) (24 ∷ []) took_kinds ts log e (ap (λ b. are_apart (kinds_of b) (24 ∷ [])) is))
-
-pub has_taken-append : (test : List Item → Bool) (log : List Entry) (e : Entry) (n name : ℕ)
-    → has_taken test (log ++ e ∷ []) n name ≡ took_by test n name log e (has_taken test log n name)
-unfolding has_taken
-has_taken-append test log e n name =
-    ap (any_or false (takes_such test n name)) (told-append log e)
-    ∙ (any_or-append false (takes_such test n name) (told log) (tells (told log) log e) ∙ took_act test n name (told log) log e (has_taken test log n name) e.event.act refl)
-
-pub has_taken-none : (test : List Item → Bool) (n name : ℕ) → has_taken test [] n name ≡ false
-unfolding has_taken told state_from
-has_taken-none test n name = refl
 
 -- ---- how often a name stands among these
 
@@ -262,28 +288,6 @@ once_without m name names h = record {
     none : (a b : ℕ) → a ≤ b → b ≡ 0 → a ≡ 0
     none a b le nothing = omega (arith, le, nothing)
 
-once_acted : (n m : ℕ) (r : Reply) (items : List Item) (a : Act) (names : List ℕ) → AreOnce m names → AreOnce (m + 1) (acted_handshakes n m r items a names)
-once_acted n m r items (act.Listener j) names h = by (j == n)
-  where
-    told : (r : Reply) → AreOnce (m + 1) (with_admitted m r names)
-    told (reply.Gates gates.Admitted) = once_admitted m names h
-    told (reply.Gates _) = once_later m names h
-    told _ = once_later m names h
-
-    by : (b : Bool) → AreOnce (m + 1) (cond b (with_admitted m r names) names)
-    by true = told r
-    by false = once_later m names h
-once_acted n m r items (act.Handshake name j) names h = by (j == n)
-  where
-    ended : (b : Bool) → AreOnce (m + 1) (unless_ended b name names)
-    ended true = once_later m (without_name name names) (once_without m name names h)
-    ended false = once_later m names h
-
-    by : (b : Bool) → AreOnce (m + 1) (cond b (unless_ended (ends_handshake r items) name names) names)
-    by true = ended (ends_handshake r items)
-    by false = once_later m names h
-once_acted n m r items _ names h = once_later m names h
-
 pub handshakes_once : (log : List Entry) (n : ℕ) → AreOnce (length log) (handshakes_of log n)
 handshakes_once log n = by_entries (λ l. AreOnce (length l) (handshakes_of l n)) first more log
   where
@@ -292,8 +296,12 @@ handshakes_once log n = by_entries (λ l. AreOnce (length l) (handshakes_of l n)
 
     more : (l : List Entry) (e : Entry) → AreOnce (length l) (handshakes_of l n) → AreOnce (length (l ++ e ∷ [])) (handshakes_of (l ++ e ∷ []) n)
     more l e h =
-        subst (λ m. AreOnce m (handshakes_of (l ++ e ∷ []) n)) (sym (length-append l (e ∷ [])))
-        (subst (AreOnce (length l + 1)) (sym (handshakes_of-append l e n)) (once_acted n (length l) e.reply (taken l e) e.event.act (handshakes_of l n) h))
+        subst (λ m. AreOnce m (handshakes_of (l ++ e ∷ []) n)) (sym (length-append l (e ∷ []))) (by (handshakes_now l e n))
+      where
+        by : (handshakes_of (l ++ e ∷ []) n ≡ handshakes_of l n) ⊎ (Begins l e n ⊎ Ends l e n) → AreOnce (length l + 1) (handshakes_of (l ++ e ∷ []) n)
+        by (inl same) = subst (AreOnce (length l + 1)) (sym same) (once_later (length l) (handshakes_of l n) h)
+        by (inr (inl begins)) = subst (AreOnce (length l + 1)) (sym begins.now) (once_admitted (length l) (handshakes_of l n) h)
+        by (inr (inr ends)) = subst (AreOnce (length l + 1)) (sym ends.now) (once_later (length l) (without_name ends.name (handshakes_of l n)) (once_without (length l) ends.name (handshakes_of l n) h))
 
 -- no handshake has the name of a later entry
 pub none_later : (log : List Entry) (n k : ℕ) → length log ≤ k → is_handshaking log n k ≡ false

@@ -2,6 +2,7 @@
 use Rattle.std.proofs.Common.{◌≡◌, Bool, true, false, cond, List, [], ◌∷◌, ◌++◌, refl, ap, sym, subst, ◌∙◌, append_assoc, append-nil, Option, Some, None}
 use Rattle.std.specs.Prelude.{◌||◌, ◌&&◌, flat_map, is_some, unwrap_or}
 use Rattle.std.specs.List.{list_any}
+use Rattle.p2p_log_rules.proofs.Bools.{and_false, and_true}
 use Rattle.p2p_log.specs.declared.entry.Entry.{Entry}
 use Rattle.p2p_log_rules.specs.Tellings.{Telling, last_or, any_or}
 use Rattle.p2p_log_rules.proofs.Tellings.{or_left, or_right}
@@ -36,14 +37,6 @@ unwrap_named false x o = refl
 pub unwrap_at : {X : Type 0} (b c : Bool) (x o : X) → unwrap_or (cond (b && c) (Some x) None) o ≡ cond b (cond c x o) o
 unwrap_at true c x o = unwrap_named c x o
 unwrap_at false c x o = refl
-
-pub and_true : (b : Bool) → (b && true) ≡ b
-and_true true = refl
-and_true false = refl
-
-pub and_false : (b : Bool) → (b && false) ≡ false
-and_false true = refl
-and_false false = refl
 
 pub either_same : {X : Type 0} (b : Bool) (o : X) → o ≡ cond b o o
 either_same true o = refl

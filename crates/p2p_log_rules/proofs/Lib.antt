@@ -1,4 +1,7 @@
+pub mod Acted
+pub mod AttemptTellings
 pub mod Attempts
+pub mod Bools
 pub mod Calls
 pub mod Channels
 pub mod Checks
@@ -10,9 +13,12 @@ pub mod Dropping
 pub mod Facts
 pub mod Families
 pub mod First
+pub mod HandshakeEnds
+pub mod HandshakeTook
 pub mod Handshakes
 pub mod Ignoring
 pub mod Lawful
+pub mod LinkTells
 pub mod Links
 pub mod Listening
 pub mod Metering
@@ -32,6 +38,5 @@ pub mod TakenAt
 pub mod Taking
 pub mod Tellings
 pub mod Told
-pub mod Tracked
 pub mod Touches
-pub mod Trying
+pub mod Tracked

@@ -1,7 +1,11 @@
 -- The links over which keys are exchanged, and what has their listening ends, after one more entry.
-use Rattle.std.proofs.Common.{◌≡◌, ℕ, Bool, true, false, cond, List, [], ◌∷◌, ◌++◌, length, Option, Some, None, refl, ap, ◌∙◌}
-use Rattle.std.specs.Prelude.{◌==◌}
+use Rattle.std.proofs.Common.{◌≡◌, ℕ, ◌+◌, ◌≤◌, Bool, true, false, cond, List, [], ◌∷◌, ◌++◌, length, Option, Some, None, ◌⊎◌, inl, inr, refl, ap, sym, subst, ◌∙◌, arith, eq-eqb, eqb-true, length-append}
+use Rattle.std.specs.Prelude.{◌==◌, ◌&&◌, unwrap_or}
+use Rattle.std.specs.List.{list_any}
 use Rattle.std.specs.Option.{option_map}
+use Rattle.std.proofs.lemmas.Option.{same_Some}
+use Rattle.p2p_base.specs.declared.key.Key.{Key}
+use Rattle.p2p_address.specs.declared.ip.SocketAddr.{SocketAddr}
 use Rattle.p2p_tracker_calls.specs.declared.gates.Reply.TheVariants as gates
 use Rattle.p2p_log.specs.declared.queue.Queue.{Queue}
 use Rattle.p2p_log.specs.declared.queue.Side.TheVariants as side
@@ -15,124 +19,319 @@ use Rattle.p2p_log.specs.declared.event.Act.TheVariants as act
 use Rattle.p2p_log_rules.specs.declared.row.Opening.{Opening}
 use Rattle.p2p_log_rules.specs.declared.row.ListeningEnd.{ListeningEnd}
 use Rattle.p2p_log_rules.specs.declared.row.ListeningEnd.TheVariants as listening
-use Rattle.p2p_log_rules.specs.Facts.{taken, state_from}
+use Rattle.p2p_log_rules.specs.Facts.{taken, state_from, with_named}
 use Rattle.p2p_log_rules.specs.Handshakes.{ends_handshake, peer_at}
-use Rattle.p2p_log_rules.specs.LinkEntries.{with_opened, without_finished, acted_openings, openings_by, admitted_end, listened, arrived, unless_dropped, acted_ends, ends_by}
 use Rattle.p2p_log_rules.specs.Links.{opens_exchange, openings_of, has_listening, listening_ends_of}
 use Rattle.p2p_log_rules.specs.Puts.{broke_off}
 use Rattle.p2p_log_rules.specs.Tellings.{Telling, last_or}
 use Rattle.p2p_log_rules.specs.Tellings as telling
-use Rattle.p2p_log_rules.specs.Told.{when, done_tells, link_tells, admitted_as, begun_tells, arrival_tells, handshake_tells, gates_tell, heard_tells, act_tells, tells, told}
-use Rattle.p2p_log_rules.proofs.Families.{kind, kinds_of, has, are_apart, untold_of}
-use Rattle.p2p_log_rules.proofs.Ignoring.{reads_some, last_or-none, unwrap_named, unwrap_at, either_same}
+use Rattle.p2p_log_rules.specs.Told.{when, done_tells, link_tells, admitted_as, begun_tells, arrival_tells, handshake_tells, gates_tell, heard_tells, tells, told}
+use Rattle.p2p_log_rules.proofs.Families.{kind, kinds_of, has, are_apart}
+use Rattle.p2p_log_rules.proofs.Ignoring.{reads_some, last_or-none, unwrap_named, unwrap_at, by_entries}
+use Rattle.p2p_log_rules.proofs.LinkTells.{weaker, told_of, tells_act, TellsNone, apart_none, linked_tells, finished_tells}
 use Rattle.p2p_log_rules.proofs.Tellings.{told-append, last_or-append, append_quiet}
 use Rattle.p2p_log_rules.proofs.Told.{begun_quiet, gates_quiet, heard_quiet}
 
 -- ---- between whom keys are exchanged
 
-module _ (k : ℕ) where
-  opening_kinds : (t : Telling) → has (10 ∷ 21 ∷ []) (kind t) ≡ false → reads_some (opens_exchange k) t ≡ false
-  opening_kinds (telling.link_opened m j link to) h = cc
-  opening_kinds (telling.exchange_ended link) h = cc
-  opening_kinds _ h = refl
+-- the kinds of tellings by which such an exchange begins and ends
+abbrev pub exchange_kinds : List ℕ
+exchange_kinds = 10 ∷ 21 ∷ []
 
-  opened_told : (n e name to : ℕ) (r : Reply) (puts : List (Queue × Item)) (f : ℕ → Option Opening)
-      → last_or (f k) (opens_exchange k) (done_tells r (telling.dial_answered n e name ∷ link_tells n e name to puts)) ≡ with_opened name (record { node = n; attempt = e; to = to }) r puts f k
-  opened_told n e name to reply.Ok (told ∷ arrival ∷ puts) f = unwrap_named (k == name) (Some (record { node = n; attempt = e; to = to })) (f k)
-  opened_told n e name to reply.Ok (told ∷ []) f = refl
-  opened_told n e name to reply.Ok [] f = refl
-  opened_told n e name to _ puts f = refl
+exchange_reads : (k : ℕ) (t : Telling) → has exchange_kinds (kind t) ≡ false → reads_some (opens_exchange k) t ≡ false
+exchange_reads k (telling.link_opened m j link to) h = cc
+exchange_reads k (telling.exchange_ended link) h = cc
+exchange_reads k _ h = refl
 
-  finished_told : (link : ℕ) (r : Reply) (f : ℕ → Option Opening) → last_or (f k) (opens_exchange k) (done_tells r (telling.exchange_ended link ∷ [])) ≡ without_finished link r f k
-  finished_told link reply.Ok f = unwrap_named (k == link) None (f k)
-  finished_told link _ f = refl
+module _ (log : List Entry) (e : Entry) where
+  pub openings_of-append : (k : ℕ) → openings_of (log ++ e ∷ []) k ≡ last_or (openings_of log k) (opens_exchange k) (tells (told log) log e)
+  unfolding openings_of
+  openings_of-append k = ap (last_or None (opens_exchange k)) (told-append log e) ∙ last_or-append None (opens_exchange k) (told log) (tells (told log) log e)
 
-  opening_told : (ts : List Telling) (log : List Entry) (e : Entry) (f : ℕ → Option Opening) (a : Act) → e.event.act ≡ a
-      → last_or (f k) (opens_exchange k) (tells ts log e) ≡ acted_openings (length log) e.reply e.puts a f k
-  unfolding tells
-  opening_told ts log e f (act.Connect d from n to) is =
-      ap (λ b. last_or (f k) (opens_exchange k) (act_tells ts log (length log) e.event.at e.event.seed e.reply (taken log e) e.puts b)) is ∙ opened_told n d (length log) to e.reply e.puts f
-  opening_told ts log e f (act.Finish link ok) is =
-      ap (λ b. last_or (f k) (opens_exchange k) (act_tells ts log (length log) e.event.at e.event.seed e.reply (taken log e) e.puts b)) is ∙ finished_told link e.reply f
-  opening_told ts log e f a is =
-      last_or-none (f k) (opens_exchange k) (tells ts log e)
-      (untold_of (reads_some (opens_exchange k)) (10 ∷ 21 ∷ []) opening_kinds ts log e (ap (λ b. are_apart (kinds_of b) (10 ∷ 21 ∷ [])) is))
+  -- an entry that tells of none leaves them alone
+  pub openings_of-kept : TellsNone (told log) log e exchange_kinds → (k : ℕ) → openings_of (log ++ e ∷ []) k ≡ openings_of log k
+  openings_of-kept none k =
+      openings_of-append k
+      ∙ last_or-none (openings_of log k) (opens_exchange k) (tells (told log) log e)
+      (weaker (λ t. has exchange_kinds (kind t)) (reads_some (opens_exchange k)) (exchange_reads k) (tells (told log) log e) none)
 
-pub openings_of-append : (log : List Entry) (e : Entry) (k : ℕ) → openings_of (log ++ e ∷ []) k ≡ openings_by log e (openings_of log) k
-unfolding openings_of
-openings_of-append log e k =
-    ap (last_or None (opens_exchange k)) (told-append log e)
-    ∙ (last_or-append None (opens_exchange k) (told log) (tells (told log) log e) ∙ opening_told k (told log) log e (openings_of log) e.event.act refl)
+  -- a dial that was answered with a link begins one over that
+  pub openings_of-linked : (d m to : ℕ) (from : SocketAddr) (one two : Queue × Item) (rest : List (Queue × Item)) → e.event.act ≡ act.Connect d from m to → e.reply ≡ reply.Ok → e.puts ≡ one ∷ two ∷ rest
+      → (k : ℕ) → openings_of (log ++ e ∷ []) k ≡ with_named (length log) (Some (record { node = m; attempt = d; to = to })) (openings_of log) k
+  openings_of-linked d m to from one two rest acts done puts k =
+      openings_of-append k
+      ∙ (ap (last_or (openings_of log k) (opens_exchange k)) (linked_tells (told log) log e d m to from one two rest acts done puts)
+      ∙ unwrap_named (k == length log) (Some (record { node = m; attempt = d; to = to })) (openings_of log k))
+
+  -- and one ends
+  pub openings_of-finished : (link : ℕ) (ok : Bool) → e.event.act ≡ act.Finish link ok → e.reply ≡ reply.Ok → (k : ℕ) → openings_of (log ++ e ∷ []) k ≡ with_named link None (openings_of log) k
+  openings_of-finished link ok acts done k =
+      openings_of-append k
+      ∙ (ap (last_or (openings_of log k) (opens_exchange k)) (finished_tells (told log) log e link ok acts done) ∙ unwrap_named (k == link) None (openings_of log k))
+
+  -- the entry opens the link of its name
+  pub record Opens (k : ℕ) (o : Opening) : Type 0 where
+    pub named : k ≡ length log
+    pub from : SocketAddr
+    pub acts : e.event.act ≡ act.Connect o.attempt from o.node o.to
+    pub done : e.reply ≡ reply.Ok
+    pub one : Queue × Item
+    pub two : Queue × Item
+    pub rest : List (Queue × Item)
+    pub puts : e.puts ≡ one ∷ two ∷ rest
+
+  -- a link over which keys are exchanged then is one of before, or that
+  pub opening_now : (k : ℕ) (o : Opening) → openings_of (log ++ e ∷ []) k ≡ Some o → (openings_of log k ≡ Some o) ⊎ Opens k o
+  opening_now k o is = by e.event.act refl
+    where
+      Now : List Telling → Type 0
+      Now us = last_or (openings_of log k) (opens_exchange k) us ≡ Some o
+
+      now : (a : Act) → e.event.act ≡ a → Now (told_of (told log) log e a)
+      now a acts = subst Now (tells_act (told log) log e a acts) (sym (openings_of-append k) ∙ is)
+
+      connects : (d m to : ℕ) (from : SocketAddr) → e.event.act ≡ act.Connect d from m to → (r : Reply) → e.reply ≡ r → (puts : List (Queue × Item)) → e.puts ≡ puts
+          → Now (done_tells r (telling.dial_answered m d (length log) ∷ link_tells m d (length log) to puts)) → (openings_of log k ≡ Some o) ⊎ Opens k o
+      connects d m to from acts reply.Ok done (one ∷ two ∷ rest) puts so = opened (k == length log) refl so
+        where
+          opened : (b : Bool) → (k == length log) ≡ b → unwrap_or (cond b (Some (Some (record { node = m; attempt = d; to = to }))) None) (openings_of log k) ≡ Some o → (openings_of log k ≡ Some o) ⊎ Opens k o
+          opened true at so =
+              let same : record { node = m; attempt = d; to = to } ≡ o = same_Some _ o so in
+              inr (record {
+                named = eqb-true k (length log) at;
+                from = from;
+                acts = acts ∙ ap (λ (p : Opening). act.Connect p.attempt from p.node p.to) same;
+                done = done;
+                one = one;
+                two = two;
+                rest = rest;
+                puts = puts;
+              })
+          opened false at so = inl so
+      connects d m to from acts reply.Ok done (one ∷ []) puts so = inl so
+      connects d m to from acts reply.Ok done [] puts so = inl so
+      connects d m to from acts _ done puts has so = inl so
+
+      finishes : (link : ℕ) (r : Reply) → Now (done_tells r (telling.exchange_ended link ∷ [])) → openings_of log k ≡ Some o
+      finishes link reply.Ok so = ended (k == link) so
+        where
+          ended : (b : Bool) → unwrap_or (cond b (Some None) None) (openings_of log k) ≡ Some o → openings_of log k ≡ Some o
+          ended true so = absurd (cc)
+          ended false so = so
+      finishes link _ so = so
+
+      by : (a : Act) → e.event.act ≡ a → (openings_of log k ≡ Some o) ⊎ Opens k o
+      by (act.Connect d from m to) acts = connects d m to from acts e.reply refl e.puts refl (now (act.Connect d from m to) acts)
+      by (act.Finish link ok) acts = inl (finishes link e.reply (now (act.Finish link ok) acts))
+      by a acts = inl (sym (openings_of-kept (apart_none (told log) log e exchange_kinds (ap (λ b. are_apart (kinds_of b) exchange_kinds) acts)) k) ∙ is)
 
 pub openings_of-none : (k : ℕ) → openings_of [] k ≡ None
 unfolding openings_of told state_from
 openings_of-none k = refl
 
+-- a link has the name of the entry that made it
+pub openings_of-late : (log : List Entry) (k : ℕ) → length log ≤ k → openings_of log k ≡ None
+openings_of-late log k = by_entries (λ l. length l ≤ k → openings_of l k ≡ None) (λ past. openings_of-none k) more log
+  where
+    more : (l : List Entry) (e : Entry) → (length l ≤ k → openings_of l k ≡ None) → length (l ++ e ∷ []) ≤ k → openings_of (l ++ e ∷ []) k ≡ None
+    more l e early past = by (openings_of (l ++ e ∷ []) k) refl
+      where
+        longer : length (l ++ e ∷ []) ≡ length l + 1
+        longer = length-append l (e ∷ [])
+
+        none : openings_of l k ≡ None
+        none = early (omega (arith, past, longer))
+
+        by : (o : Option Opening) → openings_of (l ++ e ∷ []) k ≡ o → openings_of (l ++ e ∷ []) k ≡ None
+        by None is = is
+        by (Some o) is = absurd (never (opening_now l e k o is))
+          where
+            over : (a b c : ℕ) → a ≡ b → c ≡ b + 1 → c ≤ a → ⊥
+            over a b c same more le = omega (arith, same, more, le)
+
+            never : (openings_of l k ≡ Some o) ⊎ Opens l e k o → ⊥
+            never (inl old) = let t : None ≡ Some o = sym none ∙ old in cc
+            never (inr new) = over k (length l) (length (l ++ e ∷ [])) new.named longer past
+
+-- a closed one does not begin anew
+pub openings_of-closed : (log : List Entry) (e : Entry) (k : ℕ) → (k == length log) ≡ false → openings_of log k ≡ None → openings_of (log ++ e ∷ []) k ≡ None
+openings_of-closed log e k other closed = by (openings_of (log ++ e ∷ []) k) refl
+  where
+    by : (o : Option Opening) → openings_of (log ++ e ∷ []) k ≡ o → openings_of (log ++ e ∷ []) k ≡ None
+    by None is = is
+    by (Some o) is = absurd (never (opening_now log e k o is))
+      where
+        never : (openings_of log k ≡ Some o) ⊎ Opens log e k o → ⊥
+        never (inl old) = cc
+        never (inr new) = let t : true ≡ false = sym (eq-eqb k (length log) new.named) ∙ other in cc
+
 -- ---- what has their listening ends
 
-module _ (n k : ℕ) where
-  listening_kinds : (t : Telling) → has (10 ∷ 22 ∷ 25 ∷ []) (kind t) ≡ false → reads_some (has_listening n k) t ≡ false
-  listening_kinds (telling.link_opened m j link to) h = cc
-  listening_kinds (telling.arrival_taken m link handshake) h = cc
-  listening_kinds (telling.handshake_ended m h link) is = cc
-  listening_kinds _ h = refl
+-- the kinds of tellings that change it
+abbrev pub listening_kinds : List ℕ
+listening_kinds = 10 ∷ 22 ∷ 25 ∷ []
 
-  arrived_told : (m e name to : ℕ) (r : Reply) (puts : List (Queue × Item)) (f : ℕ → Option ListeningEnd)
-      → last_or (f k) (has_listening n k) (done_tells r (telling.dial_answered m e name ∷ link_tells m e name to puts)) ≡ cond (to == n) (arrived name r puts f k) (f k)
-  arrived_told m e name to reply.Ok (told ∷ arrival ∷ puts) f = unwrap_at (to == n) (k == name) (Some listening.Arriving) (f k)
-  arrived_told m e name to reply.Ok (told ∷ []) f = either_same (to == n) (f k)
-  arrived_told m e name to reply.Ok [] f = either_same (to == n) (f k)
-  arrived_told m e name to _ puts f = either_same (to == n) (f k)
+listening_reads : (n k : ℕ) (t : Telling) → has listening_kinds (kind t) ≡ false → reads_some (has_listening n k) t ≡ false
+listening_reads n k (telling.link_opened m j link to) h = cc
+listening_reads n k (telling.arrival_taken m link handshake) h = cc
+listening_reads n k (telling.handshake_ended m h link) is = cc
+listening_reads n k _ h = refl
 
-  admitted_is : (name : ℕ) (r : Reply) → option_map listening.Handshake (admitted_as name r) ≡ admitted_end name r
-  admitted_is name (reply.Gates gates.Admitted) = refl
-  admitted_is name (reply.Gates _) = refl
-  admitted_is name _ = refl
+module _ (log : List Entry) (e : Entry) (n : ℕ) where
+  abbrev ends : ℕ → Option ListeningEnd
+  ends = listening_ends_of log n
 
-  listened_told : (m name : ℕ) (r : Reply) (items : List Item) (f : ℕ → Option ListeningEnd)
-      → last_or (f k) (has_listening n k) (arrival_tells m (admitted_as name r) items ++ (begun_tells m (admitted_as name r) ++ gates_tell r items)) ≡ cond (m == n) (listened name r items f k) (f k)
-  listened_told m name r items f =
-      last_or-append (f k) (has_listening n k) (arrival_tells m (admitted_as name r) items) (begun_tells m (admitted_as name r) ++ gates_tell r items)
-      ∙ (last_or-none (last_or (f k) (has_listening n k) (arrival_tells m (admitted_as name r) items)) (has_listening n k) (begun_tells m (admitted_as name r) ++ gates_tell r items)
-      (append_quiet (reads_some (has_listening n k)) (begun_tells m (admitted_as name r)) (gates_tell r items)
-      (begun_quiet (reads_some (has_listening n k)) name 0 m r refl) (gates_quiet (reads_some (has_listening n k)) name 0 r items (λ link. refl)))
-      ∙ by items)
+  abbrev ends_now : ℕ → Option ListeningEnd
+  ends_now = listening_ends_of (log ++ e ∷ []) n
+
+  pub listening_ends_of-append : (k : ℕ) → listening_ends_of (log ++ e ∷ []) n k ≡ last_or (listening_ends_of log n k) (has_listening n k) (tells (told log) log e)
+  unfolding listening_ends_of
+  listening_ends_of-append k = ap (last_or None (has_listening n k)) (told-append log e) ∙ last_or-append None (has_listening n k) (told log) (tells (told log) log e)
+
+  -- an entry that tells nothing of one leaves it alone
+  pub listening_ends_of-kept : (k : ℕ) → list_any (reads_some (has_listening n k)) (tells (told log) log e) ≡ false → listening_ends_of (log ++ e ∷ []) n k ≡ listening_ends_of log n k
+  listening_ends_of-kept k none = listening_ends_of-append k ∙ last_or-none (ends k) (has_listening n k) (tells (told log) log e) none
+
+  -- as where its act tells of others
+  pub listening_ends_of-apart : are_apart (kinds_of e.event.act) listening_kinds ≡ true → (k : ℕ) → listening_ends_of (log ++ e ∷ []) n k ≡ listening_ends_of log n k
+  listening_ends_of-apart apart k =
+      listening_ends_of-kept k (weaker (λ t. has listening_kinds (kind t)) (reads_some (has_listening n k)) (listening_reads n k) (tells (told log) log e) (apart_none (told log) log e listening_kinds apart))
+
+  -- a peer arrives over a link that is made
+  pub listening_ends_of-linked : (d m to : ℕ) (from : SocketAddr) (one two : Queue × Item) (rest : List (Queue × Item)) → e.event.act ≡ act.Connect d from m to → e.reply ≡ reply.Ok → e.puts ≡ one ∷ two ∷ rest
+      → (k : ℕ) → listening_ends_of (log ++ e ∷ []) n k ≡ cond (to == n) (with_named (length log) (Some listening.Arriving) (listening_ends_of log n) k) (listening_ends_of log n k)
+  listening_ends_of-linked d m to from one two rest acts done puts k =
+      listening_ends_of-append k
+      ∙ (ap (last_or (ends k) (has_listening n k)) (linked_tells (told log) log e d m to from one two rest acts done puts) ∙ unwrap_at (to == n) (k == length log) (Some listening.Arriving) (ends k))
+
+  -- none does over a dial that made none
+  pub listening_ends_of-unlinked : (d m to : ℕ) (from : SocketAddr) → e.event.act ≡ act.Connect d from m to → TellsNone (told log) log e exchange_kinds → (k : ℕ) → listening_ends_of (log ++ e ∷ []) n k ≡ listening_ends_of log n k
+  listening_ends_of-unlinked d m to from acts none k =
+      listening_ends_of-append k
+      ∙ (ap (last_or (ends k) (has_listening n k)) (tells_act (told log) log e (act.Connect d from m to) acts)
+      ∙ by e.reply e.puts (sym (ap (list_any (λ t. has exchange_kinds (kind t))) (tells_act (told log) log e (act.Connect d from m to) acts)) ∙ none))
     where
-      by : (items : List Item) → last_or (f k) (has_listening n k) (arrival_tells m (admitted_as name r) items) ≡ cond (m == n) (listened name r items f k) (f k)
-      by (item.Arrival from key link ∷ items) =
-          unwrap_at (m == n) (k == link) (option_map listening.Handshake (admitted_as name r)) (f k) ∙ ap (λ o. cond (m == n) (cond (k == link) o (f k)) (f k)) (admitted_is name r)
-      by _ = either_same (m == n) (f k)
+      by : (r : Reply) (puts : List (Queue × Item)) → list_any (λ t. has exchange_kinds (kind t)) (done_tells r (telling.dial_answered m d (length log) ∷ link_tells m d (length log) to puts)) ≡ false
+          → last_or (ends k) (has_listening n k) (done_tells r (telling.dial_answered m d (length log) ∷ link_tells m d (length log) to puts)) ≡ ends k
+      by reply.Ok (one ∷ two ∷ rest) h = cc
+      by reply.Ok (one ∷ []) h = refl
+      by reply.Ok [] h = refl
+      by _ puts h = refl
 
-  shaken_told : (m h link : ℕ) (over broke : Bool) (items : List Item) (f : ℕ → Option ListeningEnd)
-      → last_or (f k) (has_listening n k) (handshake_tells m h link over items ++ when broke (telling.end_dropped link side.In ∷ [])) ≡ cond (m == n) (unless_dropped over link f k) (f k)
-  shaken_told m h link true true items f = unwrap_at (m == n) (k == link) None (f k)
-  shaken_told m h link true false items f = unwrap_at (m == n) (k == link) None (f k)
-  shaken_told m h link false true items f = either_same (m == n) (f k)
-  shaken_told m h link false false items f = either_same (m == n) (f k)
+  -- a step of the listener that took these
+  pub listening_ends_of-listened : (m : ℕ) (items : List Item) → e.event.act ≡ act.Listener m → taken log e ≡ items
+      → (k : ℕ) → listening_ends_of (log ++ e ∷ []) n k ≡ last_or (listening_ends_of log n k) (has_listening n k) (arrival_tells m (admitted_as (length log) e.reply) items)
+  listening_ends_of-listened m items acts took k =
+      let about : Telling → Bool = reads_some (has_listening n k) in
+      let first : List Telling = arrival_tells m (admitted_as (length log) e.reply) (taken log e) in
+      let begun : List Telling = begun_tells m (admitted_as (length log) e.reply) in
+      let gate : List Telling = gates_tell e.reply (taken log e) in
+      let heard : List Telling = heard_tells m e.event.at e.reply (taken log e) in
+      listening_ends_of-append k
+      ∙ (ap (last_or (ends k) (has_listening n k)) (tells_act (told log) log e (act.Listener m) acts)
+      ∙ (last_or-append (ends k) (has_listening n k) (first ++ (begun ++ gate)) heard
+      ∙ (last_or-none (last_or (ends k) (has_listening n k) (first ++ (begun ++ gate))) (has_listening n k) heard
+      (heard_quiet about (length log) e.event.at m e.reply (taken log e) (record { update = λ addresses. refl; arrival = λ from g. refl }))
+      ∙ (last_or-append (ends k) (has_listening n k) first (begun ++ gate)
+      ∙ (last_or-none (last_or (ends k) (has_listening n k) first) (has_listening n k) (begun ++ gate)
+      (append_quiet about begun gate (begun_quiet about (length log) 0 m e.reply refl) (gates_quiet about (length log) 0 e.reply (taken log e) (λ link. refl)))
+      ∙ ap (λ i. last_or (ends k) (has_listening n k) (arrival_tells m (admitted_as (length log) e.reply) i)) took)))))
 
-  listening_told : (ts : List Telling) (log : List Entry) (e : Entry) (f : ℕ → Option ListeningEnd) (a : Act) → e.event.act ≡ a
-      → last_or (f k) (has_listening n k) (tells ts log e) ≡ acted_ends n (length log) log e.reply (taken log e) e.puts a f k
-  unfolding tells
-  listening_told ts log e f (act.Connect d from m to) is =
-      ap (λ b. last_or (f k) (has_listening n k) (act_tells ts log (length log) e.event.at e.event.seed e.reply (taken log e) e.puts b)) is ∙ arrived_told m d (length log) to e.reply e.puts f
-  listening_told ts log e f (act.Listener m) is =
-      ap (λ b. last_or (f k) (has_listening n k) (act_tells ts log (length log) e.event.at e.event.seed e.reply (taken log e) e.puts b)) is
-      ∙ (last_or-append (f k) (has_listening n k) (arrival_tells m (admitted_as (length log) e.reply) (taken log e) ++ (begun_tells m (admitted_as (length log) e.reply) ++ gates_tell e.reply (taken log e))) (heard_tells m e.event.at e.reply (taken log e))
-      ∙ (last_or-none (last_or (f k) (has_listening n k) (arrival_tells m (admitted_as (length log) e.reply) (taken log e) ++ (begun_tells m (admitted_as (length log) e.reply) ++ gates_tell e.reply (taken log e)))) (has_listening n k) (heard_tells m e.event.at e.reply (taken log e))
-      (heard_quiet (reads_some (has_listening n k)) (length log) e.event.at m e.reply (taken log e) (record { update = λ addresses. refl; arrival = λ from g. refl }))
-      ∙ listened_told m (length log) e.reply (taken log e) f))
-  listening_told ts log e f (act.Handshake h m) is =
-      ap (λ b. last_or (f k) (has_listening n k) (act_tells ts log (length log) e.event.at e.event.seed e.reply (taken log e) e.puts b)) is
-      ∙ shaken_told m h (peer_at log h).link (ends_handshake e.reply (taken log e)) (broke_off e.reply (taken log e) e.puts) (taken log e) f
-  listening_told ts log e f a is =
-      last_or-none (f k) (has_listening n k) (tells ts log e)
-      (untold_of (reads_some (has_listening n k)) (10 ∷ 22 ∷ 25 ∷ []) listening_kinds ts log e (ap (λ b. are_apart (kinds_of b) (10 ∷ 22 ∷ 25 ∷ [])) is))
+  -- as one that took an arrival
+  pub listening_ends_of-taken : (from : SocketAddr) (key : Key) (link : ℕ) (items : List Item) → e.event.act ≡ act.Listener n → taken log e ≡ item.Arrival from key link ∷ items
+      → (k : ℕ) → listening_ends_of (log ++ e ∷ []) n k ≡ with_named link (option_map listening.Handshake (admitted_as (length log) e.reply)) (listening_ends_of log n) k
+  listening_ends_of-taken from key link items acts took k =
+      let end : Option ListeningEnd = option_map listening.Handshake (admitted_as (length log) e.reply) in
+      listening_ends_of-listened n (item.Arrival from key link ∷ items) acts took k
+      ∙ (unwrap_at (n == n) (k == link) end (ends k) ∙ ap (λ b. cond b (cond (k == link) end (ends k)) (ends k)) (eq-eqb n n refl))
 
-pub listening_ends_of-append : (log : List Entry) (e : Entry) (n k : ℕ) → listening_ends_of (log ++ e ∷ []) n k ≡ ends_by n log e (listening_ends_of log n) k
-unfolding listening_ends_of
-listening_ends_of-append log e n k =
-    ap (last_or None (has_listening n k)) (told-append log e)
-    ∙ (last_or-append None (has_listening n k) (told log) (tells (told log) log e) ∙ listening_told n k (told log) log e (listening_ends_of log n) e.event.act refl)
+  -- a step of a handshake
+  pub listening_ends_of-shaken : (h m : ℕ) → e.event.act ≡ act.Handshake h m
+      → (k : ℕ) → listening_ends_of (log ++ e ∷ []) n k ≡ cond (m == n) (cond (ends_handshake e.reply (taken log e)) (with_named (peer_at log h).link None (listening_ends_of log n) k) (listening_ends_of log n k)) (listening_ends_of log n k)
+  listening_ends_of-shaken h m acts k =
+      listening_ends_of-append k
+      ∙ (ap (last_or (ends k) (has_listening n k)) (tells_act (told log) log e (act.Handshake h m) acts) ∙ by (ends_handshake e.reply (taken log e)) (broke_off e.reply (taken log e) e.puts) (taken log e))
+    where
+      same : (b : Bool) (o : Option ListeningEnd) → o ≡ cond b o o
+      same true o = refl
+      same false o = refl
+
+      by : (over broke : Bool) (items : List Item)
+          → last_or (ends k) (has_listening n k) (handshake_tells m h (peer_at log h).link over items ++ when broke (telling.end_dropped (peer_at log h).link side.In ∷ []))
+          ≡ cond (m == n) (cond over (with_named (peer_at log h).link None ends k) (ends k)) (ends k)
+      by true true items = unwrap_at (m == n) (k == (peer_at log h).link) None (ends k)
+      by true false items = unwrap_at (m == n) (k == (peer_at log h).link) None (ends k)
+      by false true items = same (m == n) (ends k)
+      by false false items = same (m == n) (ends k)
+
+  -- the entry takes the arrival over a link, for a handshake of its name
+  pub record Takes (link h : ℕ) : Type 0 where
+    pub named : h ≡ length log
+    pub acts : e.event.act ≡ act.Listener n
+    pub told : e.reply ≡ reply.Gates gates.Admitted
+    pub from : SocketAddr
+    pub key : Key
+    pub rest : List Item
+    pub took : taken log e ≡ item.Arrival from key link ∷ rest
+
+  -- a handshake that has an end then had it before, or began so
+  pub end_now : (link h : ℕ) → listening_ends_of (log ++ e ∷ []) n link ≡ Some (listening.Handshake h) → (listening_ends_of log n link ≡ Some (listening.Handshake h)) ⊎ Takes link h
+  end_now link h is = by e.event.act refl
+    where
+      Had : Type 0
+      Had = (listening_ends_of log n link ≡ Some (listening.Handshake h)) ⊎ Takes link h
+
+      Now : List Telling → Type 0
+      Now us = last_or (ends link) (has_listening n link) us ≡ Some (listening.Handshake h)
+
+      now : (a : Act) → e.event.act ≡ a → Now (told_of (told log) log e a)
+      now a acts = subst Now (tells_act (told log) log e a acts) (sym (listening_ends_of-append link) ∙ is)
+
+      links : (d m to : ℕ) (r : Reply) (puts : List (Queue × Item)) → Now (done_tells r (telling.dial_answered m d (length log) ∷ link_tells m d (length log) to puts)) → ends link ≡ Some (listening.Handshake h)
+      links d m to reply.Ok (one ∷ two ∷ rest) so = arrives ((to == n) && (link == length log)) so
+        where
+          arrives : (b : Bool) → unwrap_or (cond b (Some (Some listening.Arriving)) None) (ends link) ≡ Some (listening.Handshake h) → ends link ≡ Some (listening.Handshake h)
+          arrives true so = cc
+          arrives false so = so
+      links d m to reply.Ok (one ∷ []) so = so
+      links d m to reply.Ok [] so = so
+      links d m to _ puts so = so
+
+      same_name : (i j : ℕ) → Some (listening.Handshake i) ≡ Some (listening.Handshake j) → j ≡ i
+      same_name i j so = cc
+
+      -- where it admitted the arrival
+      begins : e.event.act ≡ act.Listener n → (from : SocketAddr) (key : Key) (rest : List Item) → taken log e ≡ item.Arrival from key link ∷ rest → (r : Reply) → e.reply ≡ r
+          → option_map listening.Handshake (admitted_as (length log) r) ≡ Some (listening.Handshake h) → Had
+      begins acts from key rest took (reply.Gates gates.Admitted) told so = inr (record { named = same_name (length log) h so; acts = acts; told = told; from = from; key = key; rest = rest; took = took })
+      begins acts from key rest took (reply.Gates _) told so = absurd (cc)
+      begins acts from key rest took _ told so = absurd (cc)
+
+      listens : (m : ℕ) → e.event.act ≡ act.Listener m → (items : List Item) → taken log e ≡ items → Now (arrival_tells m (admitted_as (length log) e.reply) items) → Had
+      listens m acts (item.Arrival from key l ∷ rest) took so = here (m == n) refl (link == l) refl so
+        where
+          here : (b : Bool) → (m == n) ≡ b → (c : Bool) → (link == l) ≡ c
+              → unwrap_or (cond (b && c) (Some (option_map listening.Handshake (admitted_as (length log) e.reply))) None) (ends link) ≡ Some (listening.Handshake h) → Had
+          here true at true over so =
+              begins (acts ∙ ap act.Listener (eqb-true m n at)) from key rest (took ∙ ap (λ j. item.Arrival from key j ∷ rest) (sym (eqb-true link l over))) e.reply refl so
+          here true at false over so = inl so
+          here false at c over so = inl so
+      listens m acts _ took so = inl so
+
+      shakes : (b over : Bool) (l : ℕ) → cond b (cond over (with_named l None ends link) (ends link)) (ends link) ≡ Some (listening.Handshake h) → ends link ≡ Some (listening.Handshake h)
+      shakes true true l so = drops (link == l) so
+        where
+          drops : (b : Bool) → cond b None (ends link) ≡ Some (listening.Handshake h) → ends link ≡ Some (listening.Handshake h)
+          drops true so = cc
+          drops false so = so
+      shakes true false l so = so
+      shakes false over l so = so
+
+      by : (a : Act) → e.event.act ≡ a → Had
+      by (act.Connect d from m to) acts = inl (links d m to e.reply e.puts (now (act.Connect d from m to) acts))
+      by (act.Listener m) acts = listens m acts (taken log e) refl (sym (listening_ends_of-listened m (taken log e) acts refl link) ∙ is)
+      by (act.Handshake k m) acts = inl (shakes (m == n) (ends_handshake e.reply (taken log e)) (peer_at log k).link (sym (listening_ends_of-shaken k m acts link) ∙ is))
+      by a acts = inl (sym (listening_ends_of-apart (ap (λ b. are_apart (kinds_of b) listening_kinds) acts) link) ∙ is)
 
 pub listening_ends_of-none : (n k : ℕ) → listening_ends_of [] n k ≡ None
 unfolding listening_ends_of told state_from

@@ -1,5 +1,5 @@
 -- What the gates of a node's listener go by, after one more entry.
-use Rattle.std.proofs.Common.{◌≡◌, ℕ, ◌≤◌, Bool, true, false, cond, max, List, [], ◌∷◌, ◌++◌, length, refl, ap, sym, subst, ◌∙◌, arith, append_assoc, append-nil, Option, Some, None}
+use Rattle.std.proofs.Common.{◌≡◌, ℕ, ◌≤◌, Bool, true, false, cond, max, List, [], ◌∷◌, ◌++◌, length, refl, ap, sym, subst, ◌∙◌, arith, append_assoc, append-nil, eq-eqb, Option, Some, None}
 use Rattle.std.proofs.Math.Path.{fun_ext}
 use Rattle.std.specs.Prelude.{◌==◌, ◌&&◌, not, flat_map, unwrap_or}
 use Rattle.std.specs.BTreeMap.{is_at}
@@ -24,30 +24,34 @@ use Rattle.p2p_log.specs.declared.event.Event.{Event}
 use Rattle.p2p_log.specs.declared.event.Act.{Act}
 use Rattle.p2p_log.specs.declared.event.Act.TheVariants as act
 use Rattle.p2p_log_rules.specs.Facts.{events_of, latest_moment, taken, state_from}
-use Rattle.p2p_log_rules.specs.Handshakes.{steps_listener}
 use Rattle.p2p_log_rules.specs.Judged.{is_counted, passed_address, passed_subnet}
-use Rattle.p2p_log_rules.specs.Listening.{hears, passes_address, passes_subnet, comes_to_quotas, known_in, known_of, gate_rules_at, took_known, known_by}
+use Rattle.p2p_log_rules.specs.Listening.{hears, passes_address, passes_subnet, comes_to_quotas, known_in, known_of, gate_rules_at}
 use Rattle.p2p_log_rules.specs.Tellings.{Telling, last_or}
 use Rattle.p2p_log_rules.specs.Tellings as telling
 use Rattle.p2p_log_rules.specs.Told.{admitted_as, begun_tells, arrival_tells, judged_tells, heard_tells, gates_tell, act_tells, tells, told_by, told}
 use Rattle.p2p_log_rules.proofs.Facts.{events_of-append}
 use Rattle.p2p_log_rules.proofs.Families.{kind, kinds_of, has, are_apart, untold_of}
 use Rattle.p2p_log_rules.proofs.Others.{none_listed, last_kept}
+use Rattle.p2p_log_rules.proofs.LinkTells.{tells_act}
 use Rattle.p2p_log_rules.proofs.Told.{listener_quiet}
-use Rattle.p2p_log_rules.proofs.Tellings.{told-append, last_or-append}
+use Rattle.p2p_log_rules.proofs.Tellings.{told-append, last_or-append, append_quiet}
 
 -- ---- after more tellings
 
-is_hearing : Telling → Bool
-is_hearing (telling.update_taken m addresses) = true
-is_hearing (telling.arrival_judged m at from g) = true
-is_hearing _ = false
+-- the kinds of tellings of what a listener took, and what it was told
+abbrev pub hearing_kinds : List ℕ
+hearing_kinds = 47 ∷ 48 ∷ []
 
-of_kinds : (t : Telling) → has (47 ∷ 48 ∷ []) (kind t) ≡ false → is_hearing t ≡ false
-unfolding is_hearing
-of_kinds (telling.update_taken m addresses) h = cc
-of_kinds (telling.arrival_judged m at from g) h = cc
-of_kinds _ h = refl
+-- such a telling of the listener of a node
+abbrev pub is_hearing : ℕ → Telling → Bool
+is_hearing n (telling.update_taken m addresses) = m == n
+is_hearing n (telling.arrival_judged m at from g) = m == n
+is_hearing n _ = false
+
+of_kinds : (n : ℕ) (t : Telling) → has hearing_kinds (kind t) ≡ false → is_hearing n t ≡ false
+of_kinds n (telling.update_taken m addresses) h = cc
+of_kinds n (telling.arrival_judged m at from g) h = cc
+of_kinds n _ h = refl
 
 -- field by field
 abbrev fields : List IpAddr → (IpAddr → List ℕ) → (IpAddr → List ℕ) → ℕ → Known
@@ -58,28 +62,20 @@ known_by_fields a b p q r s x y ab pq rs xy =
     ap (λ l. fields l p r x) ab ∙ (ap (λ f. fields b f r x) (fun_ext pq) ∙ (ap (λ f. fields b q f x) (fun_ext rs) ∙ ap (fields b q s) xy))
 
 module _ (n : ℕ) where
-  no_update : (t : Telling) → is_hearing t ≡ false → hears n t ≡ None
-  unfolding is_hearing
-  no_update (telling.update_taken m addresses) h = cc
-  no_update (telling.arrival_judged m at from g) h = cc
+  no_update : (t : Telling) → is_hearing n t ≡ false → hears n t ≡ None
+  no_update (telling.update_taken m addresses) h = ap (λ b. cond b (Some addresses) None) h
   no_update _ h = refl
 
-  no_address : (ip : IpAddr) (t : Telling) → is_hearing t ≡ false → passes_address n ip t ≡ []
-  unfolding is_hearing
-  no_address ip (telling.update_taken m addresses) h = cc
-  no_address ip (telling.arrival_judged m at from g) h = cc
+  no_address : (ip : IpAddr) (t : Telling) → is_hearing n t ≡ false → passes_address n ip t ≡ []
+  no_address ip (telling.arrival_judged m at from g) h = ap (λ b. cond b (cond (is_at (ip_cmp from) ip && passed_address g) (at ∷ []) []) []) h
   no_address ip _ h = refl
 
-  no_subnet : (ip : IpAddr) (t : Telling) → is_hearing t ≡ false → passes_subnet n ip t ≡ []
-  unfolding is_hearing
-  no_subnet ip (telling.update_taken m addresses) h = cc
-  no_subnet ip (telling.arrival_judged m at from g) h = cc
+  no_subnet : (ip : IpAddr) (t : Telling) → is_hearing n t ≡ false → passes_subnet n ip t ≡ []
+  no_subnet ip (telling.arrival_judged m at from g) h = ap (λ b. cond b (cond (is_at (ip_cmp (subnet_of from)) ip && passed_subnet g) (at ∷ []) []) []) h
   no_subnet ip _ h = refl
 
-  none_comes : (t : Telling) → is_hearing t ≡ false → comes_to_quotas n t ≡ None
-  unfolding is_hearing
-  none_comes (telling.update_taken m addresses) h = cc
-  none_comes (telling.arrival_judged m at from g) h = cc
+  none_comes : (t : Telling) → is_hearing n t ≡ false → comes_to_quotas n t ≡ None
+  none_comes (telling.arrival_judged m at from g) h = ap (λ b. cond b (cond (is_counted g) (Some at) None) None) h
   none_comes _ h = refl
 
   -- what is known, and what is told after
@@ -98,16 +94,16 @@ module _ (n : ℕ) where
       (last_or-append [] (hears n) ts us) (λ ip. flat_map-append (passes_address n ip) ts us) (λ ip. flat_map-append (passes_subnet n ip) ts us) (last_or-append 0 (comes_to_quotas n) ts us)
 
   -- where nothing is told of it
-  known_same : (us : List Telling) (k : Known) → list_any is_hearing us ≡ false → known_told us k ≡ k
+  known_same : (us : List Telling) (k : Known) → list_any (is_hearing n) us ≡ false → known_told us k ≡ k
   known_same us k h =
       let t : Known = known_told us k in
       known_by_fields t.addresses k.addresses t.passed.addresses k.passed.addresses t.passed.subnets k.passed.subnets t.latest k.latest
-      (last_kept is_hearing (hears n) no_update k.addresses us h)
-      (λ ip. ap (λ l. k.passed.addresses ip ++ l) (none_listed is_hearing (passes_address n ip) (no_address ip) us h) ∙ append-nil (k.passed.addresses ip))
-      (λ ip. ap (λ l. k.passed.subnets ip ++ l) (none_listed is_hearing (passes_subnet n ip) (no_subnet ip) us h) ∙ append-nil (k.passed.subnets ip))
-      (last_kept is_hearing (comes_to_quotas n) none_comes k.latest us h)
+      (last_kept (is_hearing n) (hears n) no_update k.addresses us h)
+      (λ ip. ap (λ l. k.passed.addresses ip ++ l) (none_listed (is_hearing n) (passes_address n ip) (no_address ip) us h) ∙ append-nil (k.passed.addresses ip))
+      (λ ip. ap (λ l. k.passed.subnets ip ++ l) (none_listed (is_hearing n) (passes_subnet n ip) (no_subnet ip) us h) ∙ append-nil (k.passed.subnets ip))
+      (last_kept (is_hearing n) (comes_to_quotas n) none_comes k.latest us h)
 
-  known_others : (ts us : List Telling) → list_any is_hearing us ≡ false → known_in (ts ++ us) n ≡ known_in ts n
+  known_others : (ts us : List Telling) → list_any (is_hearing n) us ≡ false → known_in (ts ++ us) n ≡ known_in ts n
   known_others ts us h = known_in-more ts us ∙ known_same us (known_in ts n) h
 
 -- ---- one arrival
@@ -215,32 +211,38 @@ abbrev pub IsJudged : GateRules → Known → ℕ → Reply → List Item → Ty
 IsJudged rules k at r (item.Arrival from key link ∷ items) = (k.latest ≤ at) × ((place : Bool) × (r ≡ reply.Gates (reply_to rules k place from.ip at)))
 IsJudged rules k at r _ = Unit {0}
 
-module _ (n m at : ℕ) (k : Known) where
-  abbrev t_update : List IpAddr → Known
-  t_update addresses = known_told n (telling.update_taken m addresses ∷ []) k
+-- what is known once this was taken at a moment: addresses, or an arrival, which is held against the quotas where it comes to them
+abbrev pub took_known : GateRules → ℕ → List Item → Known → Known
+took_known rules at (item.Addresses addresses ∷ items) k = record k { addresses = addresses }
+took_known rules at (item.Arrival from key link ∷ items) k = known_after rules k from.ip at
+took_known rules at _ k = k
 
-  updated : (addresses : List IpAddr) → known_told n (telling.update_taken m addresses ∷ []) k ≡ cond (m == n) (record k { addresses = addresses }) k
+module _ (n at : ℕ) (k : Known) where
+  abbrev t_update : List IpAddr → Known
+  t_update addresses = known_told n (telling.update_taken n addresses ∷ []) k
+
+  updated : (addresses : List IpAddr) → known_told n (telling.update_taken n addresses ∷ []) k ≡ cond (n == n) (record k { addresses = addresses }) k
   updated addresses =
       let t : Known = t_update addresses in
-      known_by_fields t.addresses (unwrap_or (cond (m == n) (Some addresses) None) k.addresses) t.passed.addresses k.passed.addresses t.passed.subnets k.passed.subnets t.latest k.latest
+      known_by_fields t.addresses (unwrap_or (cond (n == n) (Some addresses) None) k.addresses) t.passed.addresses k.passed.addresses t.passed.subnets k.passed.subnets t.latest k.latest
       refl (λ q. append-nil (k.passed.addresses q)) (λ q. append-nil (k.passed.subnets q)) refl
-      ∙ by (m == n)
+      ∙ by (n == n)
     where
       by : (b : Bool) → record { addresses = unwrap_or (cond b (Some addresses) None) k.addresses; passed = k.passed; latest = k.latest } ≡ cond b (record k { addresses = addresses }) k
       by true = refl
       by false = refl
 
-  told_arrival : (from : IpAddr) (g : Gates) → known_told n (telling.arrival_judged m at from g ∷ []) k ≡ cond (m == n) (known_judged from at g k) k
+  told_arrival : (from : IpAddr) (g : Gates) → known_told n (telling.arrival_judged n at from g ∷ []) k ≡ cond (n == n) (known_judged from at g k) k
   told_arrival from g =
-      let t : Known = known_told n (telling.arrival_judged m at from g ∷ []) k in
+      let t : Known = known_told n (telling.arrival_judged n at from g ∷ []) k in
       known_by_fields t.addresses k.addresses
-      t.passed.addresses (λ q. k.passed.addresses q ++ cond (m == n) (cond (is_at (ip_cmp from) q && passed_address g) (at ∷ []) []) [])
-      t.passed.subnets (λ q. k.passed.subnets q ++ cond (m == n) (cond (is_at (ip_cmp (subnet_of from)) q && passed_subnet g) (at ∷ []) []) [])
-      t.latest (unwrap_or (cond (m == n) (cond (is_counted g) (Some at) None) None) k.latest)
-      refl (λ q. ap (λ l. k.passed.addresses q ++ l) (append-nil (cond (m == n) (cond (is_at (ip_cmp from) q && passed_address g) (at ∷ []) []) [])))
-      (λ q. ap (λ l. k.passed.subnets q ++ l) (append-nil (cond (m == n) (cond (is_at (ip_cmp (subnet_of from)) q && passed_subnet g) (at ∷ []) []) [])))
+      t.passed.addresses (λ q. k.passed.addresses q ++ cond (n == n) (cond (is_at (ip_cmp from) q && passed_address g) (at ∷ []) []) [])
+      t.passed.subnets (λ q. k.passed.subnets q ++ cond (n == n) (cond (is_at (ip_cmp (subnet_of from)) q && passed_subnet g) (at ∷ []) []) [])
+      t.latest (unwrap_or (cond (n == n) (cond (is_counted g) (Some at) None) None) k.latest)
+      refl (λ q. ap (λ l. k.passed.addresses q ++ l) (append-nil (cond (n == n) (cond (is_at (ip_cmp from) q && passed_address g) (at ∷ []) []) [])))
+      (λ q. ap (λ l. k.passed.subnets q ++ l) (append-nil (cond (n == n) (cond (is_at (ip_cmp (subnet_of from)) q && passed_subnet g) (at ∷ []) []) [])))
       refl
-      ∙ by (m == n)
+      ∙ by (n == n)
     where
       counts : (b : Bool) → unwrap_or (cond b (Some at) None) k.latest ≡ cond b at k.latest
       counts true = refl
@@ -261,80 +263,56 @@ module _ (n m at : ℕ) (k : Known) where
           known_by_fields k.addresses k.addresses (λ q. k.passed.addresses q ++ []) k.passed.addresses (λ q. k.passed.subnets q ++ []) k.passed.subnets k.latest k.latest
           refl (λ q. append-nil (k.passed.addresses q)) (λ q. append-nil (k.passed.subnets q)) refl
 
-  nothing : known_told n [] k ≡ k
-  nothing = known_same n [] k refl
-
-  same : (b : Bool) → k ≡ cond b k k
-  same true = refl
-  same false = refl
-
-  heard : (rules : GateRules) (r : Reply) (items : List Item) → ((m == n) ≡ true → IsJudged rules k at r items)
-      → known_told n (heard_tells m at r items) k ≡ cond (m == n) (took_known rules at items k) k
-  heard rules r (item.Addresses addresses ∷ items) h = updated addresses
-  heard rules r (item.Arrival from key link ∷ items) h = by (m == n) refl h
-    where
-      by : (b : Bool) → (m == n) ≡ b → (b ≡ true → IsJudged rules k at r (item.Arrival from key link ∷ items)) → known_told n (judged_tells m at from.ip r) k ≡ cond b (known_after rules k from.ip at) k
-      by true here h =
-          let j = h refl in
-          ap (λ a. known_told n (judged_tells m at from.ip a) k) j.1.1
-          ∙ (told_arrival from.ip (reply_to rules k j.1.0 from.ip at)
-          ∙ (ap (λ b. cond b (known_judged from.ip at (reply_to rules k j.1.0 from.ip at) k) k) here ∙ judged rules k from.ip at j.1.0 j.0))
-      by false there h = elsewhere r
-        where
-          elsewhere : (a : Reply) → known_told n (judged_tells m at from.ip a) k ≡ k
-          elsewhere (reply.Gates g) = told_arrival from.ip g ∙ ap (λ b. cond b (known_judged from.ip at g k) k) there
-          elsewhere _ = nothing
-  heard rules r _ h = nothing ∙ same (m == n)
+  heard : (rules : GateRules) (r : Reply) (items : List Item) → IsJudged rules k at r items → known_told n (heard_tells n at r items) k ≡ took_known rules at items k
+  heard rules r (item.Addresses addresses ∷ items) h = updated addresses ∙ ap (λ b. cond b (record k { addresses = addresses }) k) (eq-eqb n n refl)
+  heard rules r (item.Arrival from key link ∷ items) h =
+      let g : Gates = reply_to rules k h.1.0 from.ip at in
+      ap (λ a. known_told n (judged_tells n at from.ip a) k) h.1.1
+      ∙ (told_arrival from.ip g ∙ (ap (λ b. cond b (known_judged from.ip at g k) k) (eq-eqb n n refl) ∙ judged rules k from.ip at h.1.0 h.0))
+  heard rules r _ h = known_same n [] k refl
 
 -- what a step of the listener tells before that is of other things
 abbrev others_told : ℕ → ℕ → Reply → List Item → List Telling
 others_told m name r items = arrival_tells m (admitted_as name r) items ++ (begun_tells m (admitted_as name r) ++ gates_tell r items)
 
-others_quiet : (m name : ℕ) (r : Reply) (items : List Item) → list_any is_hearing (others_told m name r items) ≡ false
-unfolding is_hearing
-others_quiet m name r items = listener_quiet is_hearing name 0 m r items (record { took = λ link handshake. refl; begun = refl; drops = λ link. refl })
+others_quiet : (n m name : ℕ) (r : Reply) (items : List Item) → list_any (is_hearing n) (others_told m name r items) ≡ false
+others_quiet n m name r items = listener_quiet (is_hearing n) name 0 m r items (record { took = λ link handshake. refl; begun = refl; drops = λ link. refl })
 
 module _ (configs : List Config) (log : List Entry) (e : Entry) (n : ℕ) where
-  abbrev k : Known
-  k = known_in (told log) n
-
-  abbrev rules : GateRules
-  rules = gate_rules_at configs n
-
-  -- what an entry makes of it
-  known_told_by : (steps_listener n e.event.act ≡ true → IsJudged rules k e.event.at e.reply (taken log e)) → known_in (told log ++ tells (told log) log e) n ≡ known_by configs n log e k
-  unfolding tells
-  known_told_by h = by e.event.act refl h
-    where
-      by : (a : Act) → e.event.act ≡ a → (steps_listener n a ≡ true → IsJudged rules k e.event.at e.reply (taken log e)) → known_in (told log ++ tells (told log) log e) n
-          ≡ cond (steps_listener n a) (took_known rules e.event.at (taken log e) k) k
-      by (act.Listener m) is h =
-          let ts : List Telling = told log in
-          let first : List Telling = others_told m (length log) e.reply (taken log e) in
-          let after : List Telling = heard_tells m e.event.at e.reply (taken log e) in
-          ap (λ a. known_in (ts ++ act_tells ts log (length log) e.event.at e.event.seed e.reply (taken log e) e.puts a) n) is
-          ∙ (ap (λ l. known_in l n) (sym (append_assoc ts first after))
-          ∙ (known_in-more n (ts ++ first) after
-          ∙ (ap (known_told n after) (known_others n ts first (others_quiet m (length log) e.reply (taken log e))) ∙ heard n m e.event.at k rules e.reply (taken log e) h)))
-      by a is h = known_others n (told log) (tells (told log) log e) (untold_of is_hearing (47 ∷ 48 ∷ []) of_kinds (told log) log e (ap (λ b. are_apart (kinds_of b) (47 ∷ 48 ∷ [])) is))
-
-  pub known_of-append : (steps_listener n e.event.act ≡ true → IsJudged rules (known_of configs log n) e.event.at e.reply (taken log e)) → known_of configs (log ++ e ∷ []) n ≡ known_by configs n log e (known_of configs log n)
+  -- an entry that tells nothing of it leaves it alone
+  pub known_of-kept : list_any (is_hearing n) (tells (told log) log e) ≡ false → known_of configs (log ++ e ∷ []) n ≡ known_of configs log n
   unfolding known_of
-  known_of-append h = ap (λ l. known_in l n) (told-append log e) ∙ known_told_by h
+  known_of-kept none = ap (λ l. known_in l n) (told-append log e) ∙ known_others n (told log) (tells (told log) log e) none
 
-  -- no step of it leaves it alone
-  pub known_of-kept : steps_listener n e.event.act ≡ false → known_of configs (log ++ e ∷ []) n ≡ known_of configs log n
-  known_of-kept none =
-      known_of-append (λ steps. absurd (apart (sym none ∙ steps))) ∙ ap (λ b. cond b (took_known rules e.event.at (taken log e) (known_of configs log n)) (known_of configs log n)) none
-    where
-      apart : false ≡ true → ⊥
-      apart h = cc
+  -- as where its act tells of others
+  pub known_of-apart : are_apart (kinds_of e.event.act) hearing_kinds ≡ true → known_of configs (log ++ e ∷ []) n ≡ known_of configs log n
+  known_of-apart apart = known_of-kept (untold_of (is_hearing n) hearing_kinds (of_kinds n) (told log) log e apart)
 
-  -- nor one that took nothing
+  -- a step of the listener
+  pub known_of-listened : e.event.act ≡ act.Listener n → IsJudged (gate_rules_at configs n) (known_of configs log n) e.event.at e.reply (taken log e)
+      → known_of configs (log ++ e ∷ []) n ≡ took_known (gate_rules_at configs n) e.event.at (taken log e) (known_of configs log n)
+  unfolding known_of
+  known_of-listened acts h =
+      let ts : List Telling = told log in
+      let first : List Telling = others_told n (length log) e.reply (taken log e) in
+      let after : List Telling = heard_tells n e.event.at e.reply (taken log e) in
+      ap (λ l. known_in l n) (told-append log e)
+      ∙ (ap (λ us. known_in (ts ++ us) n) (tells_act ts log e (act.Listener n) acts)
+      ∙ (ap (λ l. known_in l n) (sym (append_assoc ts first after))
+      ∙ (known_in-more n (ts ++ first) after
+      ∙ (ap (known_told n after) (known_others n ts first (others_quiet n n (length log) e.reply (taken log e))) ∙ heard n e.event.at (known_in ts n) (gate_rules_at configs n) e.reply (taken log e) h))))
+
+  -- nor does one that took nothing
   pub known_of-untaken : taken log e ≡ [] → known_of configs (log ++ e ∷ []) n ≡ known_of configs log n
-  known_of-untaken none =
-      known_of-append (λ steps. subst (IsJudged rules (known_of configs log n) e.event.at e.reply) (sym none) tt)
-      ∙ (ap (λ l. cond (steps_listener n e.event.act) (took_known rules e.event.at l (known_of configs log n)) (known_of configs log n)) none ∙ sym (same n 0 0 (known_of configs log n) (steps_listener n e.event.act)))
+  known_of-untaken none = by e.event.act refl
+    where
+      by : (a : Act) → e.event.act ≡ a → known_of configs (log ++ e ∷ []) n ≡ known_of configs log n
+      by (act.Listener m) acts =
+          known_of-kept
+          (ap (list_any (is_hearing n)) (tells_act (told log) log e (act.Listener m) acts)
+          ∙ append_quiet (is_hearing n) (others_told m (length log) e.reply (taken log e)) (heard_tells m e.event.at e.reply (taken log e)) (others_quiet n m (length log) e.reply (taken log e))
+          (ap (λ i. list_any (is_hearing n) (heard_tells m e.event.at e.reply i)) none))
+      by a acts = known_of-apart (ap (λ b. are_apart (kinds_of b) hearing_kinds) acts)
 
 -- ---- the last arrival that came to the quotas is not after the log
 
@@ -347,8 +325,8 @@ module _ (n : ℕ) where
   unfolding tells
   comes_by ts log e x = by e.event.act refl
     where
-      kept : (us : List Telling) → list_any is_hearing us ≡ false → last_or x (comes_to_quotas n) us ≤ max x e.event.at
-      kept us h = subst (λ y. y ≤ max x e.event.at) (sym (last_kept is_hearing (comes_to_quotas n) (none_comes n) x us h)) (omega arith)
+      kept : (us : List Telling) → list_any (is_hearing n) us ≡ false → last_or x (comes_to_quotas n) us ≤ max x e.event.at
+      kept us h = subst (λ y. y ≤ max x e.event.at) (sym (last_kept (is_hearing n) (comes_to_quotas n) (none_comes n) x us h)) (omega arith)
 
       one : (here counted : Bool) → unwrap_or (cond here (cond counted (Some e.event.at) None) None) x ≤ max x e.event.at
       one true true = omega arith
@@ -371,9 +349,9 @@ module _ (n : ℕ) where
           subst (λ y. y ≤ max x e.event.at)
           (sym (ap (λ a. last_or x (comes_to_quotas n) (act_tells ts log (length log) e.event.at e.event.seed e.reply (taken log e) e.puts a)) is
           ∙ (last_or-append x (comes_to_quotas n) first after
-          ∙ ap (λ y. last_or y (comes_to_quotas n) after) (last_kept is_hearing (comes_to_quotas n) (none_comes n) x first (others_quiet m (length log) e.reply (taken log e))))))
+          ∙ ap (λ y. last_or y (comes_to_quotas n) after) (last_kept (is_hearing n) (comes_to_quotas n) (none_comes n) x first (others_quiet n m (length log) e.reply (taken log e))))))
           (hear m e.reply (taken log e))
-      by a is = kept (tells ts log e) (untold_of is_hearing (47 ∷ 48 ∷ []) of_kinds ts log e (ap (λ b. are_apart (kinds_of b) (47 ∷ 48 ∷ [])) is))
+      by a is = kept (tells ts log e) (untold_of (is_hearing n) hearing_kinds (of_kinds n) ts log e (ap (λ b. are_apart (kinds_of b) hearing_kinds) is))
 
   late_from : (before es : List Entry) (ts : List Telling) → last_or 0 (comes_to_quotas n) ts ≤ latest_moment (events_of before)
       → last_or 0 (comes_to_quotas n) (state_from told_by before es ts) ≤ latest_moment (events_of (before ++ es))

@@ -16,13 +16,14 @@ use Rattle.p2p_log.specs.declared.event.Act.TheVariants as act
 use Rattle.p2p_log.specs.Lines.{name_of, line}
 use Rattle.p2p_log_rules.specs.declared.row.Half.{Half}
 use Rattle.p2p_log_rules.specs.declared.row.Row.{Row}
-use Rattle.p2p_log_rules.specs.Connections.{steps_sender, is_done, is_begun, is_running, live_half}
+use Rattle.p2p_log_rules.specs.Connections.{is_done, begins, is_begun, has_run, is_running, live_half}
 use Rattle.p2p_log_rules.specs.Dropping.{other_side, is_dropped}
 use Rattle.p2p_log.specs.declared.entry.Reply.TheVariants as reply
-use Rattle.p2p_log_rules.specs.Effect.{only, takes_oldest, write_row, batch_size_at, beside_ping, batch, written_row, told_row, running_row, half_row, sender_row, send_step_row, row, effect}
+use Rattle.p2p_log_rules.specs.Effect.{only, takes_oldest, write_row, batch_size_at, beside_ping, batch, written_row, told_to_end_row, running_row, half_row, sender_row, send_step_row, row, effect}
 use Rattle.p2p_log_rules.specs.Facts.{is_up, item_named, taken}
 use Rattle.p2p_log_rules.specs.HalfSteps.{puts_ping}
 use Rattle.p2p_log_rules.specs.Pings.{ping_is_due}
+use Rattle.p2p_log_rules.proofs.Connections.{steps_sender, begins_is, running_of}
 use Rattle.p2p_log_rules.proofs.Pinging.{PingsWhenDue}
 use Rattle.p2p_log_rules.proofs.Recorded.{AreRecorded, AreRecorded-append, AreRecorded-line, flat_map_item_named}
 
@@ -72,7 +73,7 @@ module _ (configs : List Config) (log : List Entry) (n conn at : ℕ) where
   written_pings half false false (x ∷ xs) h done = write_pings log (queue.Link half.link half.writes) false (x ∷ xs) h done
   written_pings half false true xs h done = write_pings log (queue.Link half.link half.writes) true xs h done
 
-  told_pings : (half : Half) (xs : List Envelope) (room due : Bool) (r : Row) → Pings log due r → Pings log due (told_row log n conn half xs room r)
+  told_pings : (half : Half) (xs : List Envelope) (room due : Bool) (r : Row) → Pings log due r → Pings log due (told_to_end_row log n conn half xs room r)
   told_pings half [] room due r h done = h done
   told_pings half (x ∷ xs) true due r h done = cc
   told_pings half (x ∷ xs) false due r h done = h done
@@ -95,11 +96,11 @@ module _ (configs : List Config) (log : List Entry) (n conn at : ℕ) where
 
   -- a ping is due of one that has begun and runs alone
   abbrev pub RunsWhenDue : Type 0
-  RunsWhenDue = ping_is_due configs log n conn at ≡ true → (is_begun log n conn ≡ true) × (is_running log n conn ≡ true)
+  RunsWhenDue = ping_is_due configs log n conn at ≡ true → (is_begun log n conn ≡ true) × (has_run log n conn ≡ true)
 
-  sender_pings : RunsWhenDue → (o : Option Half) → Pings log (ping_is_due configs log n conn at) (sender_row configs log n conn at o)
-  sender_pings runs None done = cc
-  sender_pings runs (Some half) done = by (is_begun log n conn) (is_running log n conn) refl refl done
+  sender_pings : RunsWhenDue → (o : Option Half) → live_half log n conn ≡ o → Pings log (ping_is_due configs log n conn at) (sender_row configs log n conn at o)
+  sender_pings runs None lived done = cc
+  sender_pings runs (Some half) lived done = by (is_begun log n conn) (is_running log n conn) refl refl done
     where
       never : (due : Bool) → ping_is_due configs log n conn at ≡ due → (due ≡ true → ⊥) → due ≡ false
       never true is h = absurd (h refl)
@@ -110,19 +111,19 @@ module _ (configs : List Config) (log : List Entry) (n conn at : ℕ) where
           sym (never (ping_is_due configs log n conn at) refl (λ due. let b = (runs due).0 in false≢true (sym is_begun_now ∙ b)))
       by true false is_begun_now is_running_now done =
           oldest_pings (line log (queue.Ready n conn)) done
-          ∙ sym (never (ping_is_due configs log n conn at) refl (λ due. let b = (runs due).1 in false≢true (sym is_running_now ∙ b)))
+          ∙ sym (never (ping_is_due configs log n conn at) refl (λ due. let b = (runs due).1 in false≢true (sym is_running_now ∙ (running_of log n conn half lived ∙ b))))
       by true true is_begun_now is_running_now done = running_pings half (ping_is_due configs log n conn at) done
 
   step_pings : RunsWhenDue → Pings log (ping_is_due configs log n conn at) (send_step_row configs log conn n at)
   step_pings runs = by (is_up log n)
     where
       by : (up : Bool) → Pings log (ping_is_due configs log n conn at) (cond up (sender_row configs log n conn at (live_half log n conn)) (only reply.Gone))
-      by true done = sender_pings runs (live_half log n conn) done
+      by true done = sender_pings runs (live_half log n conn) refl done
       by false done = cc
 
 pub pings_when_due : (configs : List Config) (log : List Entry) (ev : Event) (n conn : ℕ) → RunsWhenDue configs log n conn ev.at → PingsWhenDue configs log (effect configs log ev) n conn
 unfolding effect row taken
-pings_when_due configs log ev n conn runs = by ev.act
+pings_when_due configs log ev n conn runs begin = by ev.act (sym (begins_is log (effect configs log ev) n conn) ∙ begin)
   where
     by : (a : Act) → (steps_sender n conn a && is_done (row configs log ev.at ev.seed a).reply) ≡ true
         → puts_ping (flat_map (item_named log) (row configs log ev.at ev.seed a).takes) (row configs log ev.at ev.seed a).puts ≡ ping_is_due configs log n conn ev.at

@@ -1,5 +1,5 @@
 -- From where connections count to their next pings, after one more entry.
-use Rattle.std.proofs.Common.{◌≡◌, ℕ, Bool, true, false, cond, List, [], ◌∷◌, ◌++◌, length, refl, ap, ◌∙◌, Option, Some, None}
+use Rattle.std.proofs.Common.{◌≡◌, ℕ, Bool, true, false, cond, List, [], ◌∷◌, ◌++◌, length, refl, ap, sym, ◌∙◌, Option, Some, None}
 use Rattle.std.specs.Prelude.{◌==◌, ◌&&◌, unwrap_or}
 use Rattle.std.specs.List.{list_any}
 use Rattle.p2p_log.specs.declared.config.Config.{Config}
@@ -11,18 +11,19 @@ use Rattle.p2p_log.specs.declared.entry.Reply.TheVariants as reply
 use Rattle.p2p_log.specs.declared.event.Act.{Act}
 use Rattle.p2p_log.specs.declared.event.Act.TheVariants as act
 use Rattle.p2p_log_rules.specs.declared.row.Half.{Half}
-use Rattle.p2p_log_rules.specs.Connections.{is_answer, steps_sender, is_done, begins}
+use Rattle.p2p_log_rules.specs.Connections.{is_answer, is_done, begins}
 use Rattle.p2p_log_rules.specs.Facts.{taken, state_from}
 use Rattle.p2p_log_rules.specs.HalfSteps.{puts_ping}
 use Rattle.p2p_log_rules.specs.Halves.{half_in}
 use Rattle.p2p_log_rules.specs.Pings.{ping_frequency_at, is_past, runs_from, pings_at, or_from, last_pinged, ping_is_due}
 use Rattle.p2p_log_rules.specs.Tellings.{Telling, last_or, or_new, first_or}
 use Rattle.p2p_log_rules.specs.Tellings as telling
-use Rattle.p2p_log_rules.specs.Told.{when, done_tells, sender_tells, end_tells, half_tells, pinged_tells, act_tells, tells, told}
+use Rattle.p2p_log_rules.specs.Told.{when, done_tells, sender_tells, over_tells, act_tells, tells, told}
+use Rattle.p2p_log_rules.proofs.Connections.{steps_sender, begins_is}
 use Rattle.p2p_log_rules.proofs.Families.{kind, kinds_of, has, are_apart, untold_of}
 use Rattle.p2p_log_rules.proofs.Others.{last_kept, first_kept}
-use Rattle.p2p_log_rules.proofs.Told.{NoneReceived, sender_quiet, over_quiet}
-use Rattle.p2p_log_rules.proofs.Tellings.{told-append, append_quiet, last_or-append, first_or-append}
+use Rattle.p2p_log_rules.proofs.Told.{over_quiet}
+use Rattle.p2p_log_rules.proofs.Tellings.{told-append, last_or-append, first_or-append}
 
 -- after a step at this moment that took these and put these
 abbrev pub counted_now : ℕ → List Item → List (Queue × Item) → Option ℕ → Option ℕ
@@ -66,16 +67,13 @@ module _ (n conn : ℕ) where
       ap (λ o. or_from o (first_or ran (runs_from n conn) us)) (last_kept is_count (pings_at n conn) not_pinged pinged us h)
       ∙ ap (or_from pinged) (first_kept is_count (runs_from n conn) not_run ran us h)
 
-  half_quiet : (m c : ℕ) (r : Reply) (items : List Item) (half : Option Half) → list_any is_count (sender_tells m c r items ++ (end_tells m c r ++ half_tells r half)) ≡ false
+  half_quiet : (m c : ℕ) (r : Reply) (half : Option Half) → list_any is_count (over_tells m c r half) ≡ false
   unfolding is_count
-  half_quiet m c r items half =
-      let ends : NoneReceived is_count m c = record { over = refl; drops = λ link s. refl } in
-      append_quiet is_count (sender_tells m c r items) (end_tells m c r ++ half_tells r half)
-      (sender_quiet is_count 0 0 m c r items (record { step = refl; answer = refl; ends = ends })) (over_quiet is_count 0 0 m c r half ends)
+  half_quiet m c r half = over_quiet is_count 0 0 m c r half (record { over = refl; drops = λ link s. refl })
 
   -- what a step of a sending half makes of it
   stepped : (m c at : ℕ) (r : Reply) (items : List Item) (puts : List (Queue × Item)) (pinged ran : Option ℕ)
-      → counted (done_tells r (pinged_tells m c at items puts)) pinged ran ≡ cond (((m == n) && (c == conn)) && is_done r) (counted_now at items puts (or_from pinged ran)) (or_from pinged ran)
+      → counted (done_tells r (sender_tells m c at items puts)) pinged ran ≡ cond (((m == n) && (c == conn)) && is_done r) (counted_now at items puts (or_from pinged ran)) (or_from pinged ran)
   stepped m c at reply.Ok items puts pinged ran = by (list_any is_answer items) (puts_ping items puts)
     where
       no_answer : (pinged ran : Option ℕ) → or_from pinged ran ≡ or_from (or_from pinged ran) None
@@ -119,24 +117,25 @@ module _ (n conn : ℕ) where
 
 -- what an entry makes of it
 counted_by : (log : List Entry) (e : Entry) (n conn : ℕ) (pinged ran : Option ℕ)
-    → counted n conn (tells (told log) log e) pinged ran ≡ cond (begins n conn e) (counted_now e.event.at (taken log e) e.puts (or_from pinged ran)) (or_from pinged ran)
+    → counted n conn (tells (told log) log e) pinged ran ≡ cond (begins n conn log e) (counted_now e.event.at (taken log e) e.puts (or_from pinged ran)) (or_from pinged ran)
 unfolding tells
-counted_by log e n conn pinged ran = by e.event.act refl
+counted_by log e n conn pinged ran =
+    by e.event.act refl ∙ ap (λ b. cond b (counted_now e.event.at (taken log e) e.puts (or_from pinged ran)) (or_from pinged ran)) (sym (begins_is log e n conn))
   where
     by : (a : Act) → e.event.act ≡ a
         → counted n conn (tells (told log) log e) pinged ran ≡ cond (steps_sender n conn a && is_done e.reply) (counted_now e.event.at (taken log e) e.puts (or_from pinged ran)) (or_from pinged ran)
     by (act.SendStep c m) is =
-        let half : List Telling = sender_tells m c e.reply (taken log e) ++ (end_tells m c e.reply ++ half_tells e.reply (half_in (told log) m c)) in
-        let more : List Telling = done_tells e.reply (pinged_tells m c e.event.at (taken log e) e.puts) in
+        let half : List Telling = over_tells m c e.reply (half_in (told log) m c) in
+        let more : List Telling = done_tells e.reply (sender_tells m c e.event.at (taken log e) e.puts) in
         ap (λ a. counted n conn (act_tells (told log) log (length log) e.event.at e.event.seed e.reply (taken log e) e.puts a) pinged ran) is
         ∙ (counted-append n conn half more pinged ran
-        ∙ (ap (λ o. counted n conn more o (first_or ran (runs_from n conn) half)) (last_kept is_count (pings_at n conn) (not_pinged n conn) pinged half (half_quiet n conn m c e.reply (taken log e) (half_in (told log) m c)))
-        ∙ (ap (λ o. counted n conn more pinged o) (first_kept is_count (runs_from n conn) (not_run n conn) ran half (half_quiet n conn m c e.reply (taken log e) (half_in (told log) m c)))
+        ∙ (ap (λ o. counted n conn more o (first_or ran (runs_from n conn) half)) (last_kept is_count (pings_at n conn) (not_pinged n conn) pinged half (half_quiet n conn m c e.reply (half_in (told log) m c)))
+        ∙ (ap (λ o. counted n conn more pinged o) (first_kept is_count (runs_from n conn) (not_run n conn) ran half (half_quiet n conn m c e.reply (half_in (told log) m c)))
         ∙ stepped n conn m c e.event.at e.reply (taken log e) e.puts pinged ran)))
     by a is = counted_same n conn (tells (told log) log e) pinged ran (untold_of is_count (40 ∷ 41 ∷ []) of_kinds (told log) log e (ap (λ b. are_apart (kinds_of b) (40 ∷ 41 ∷ [])) is))
 
 pub last_pinged-told : (configs : List Config) (log : List Entry) (e : Entry) (n conn : ℕ)
-    → last_pinged configs (log ++ e ∷ []) n conn ≡ cond (begins n conn e) (counted_now e.event.at (taken log e) e.puts (last_pinged configs log n conn)) (last_pinged configs log n conn)
+    → last_pinged configs (log ++ e ∷ []) n conn ≡ cond (begins n conn log e) (counted_now e.event.at (taken log e) e.puts (last_pinged configs log n conn)) (last_pinged configs log n conn)
 unfolding last_pinged
 last_pinged-told configs log e n conn =
     ap (λ l. counted n conn l None None) (told-append log e)
@@ -144,7 +143,7 @@ last_pinged-told configs log e n conn =
     ∙ counted_by log e n conn (last_or None (pings_at n conn) (told log)) (first_or None (runs_from n conn) (told log)))
 
 -- no step of its sending half was done
-pub last_pinged-kept : (configs : List Config) (log : List Entry) (e : Entry) (n conn : ℕ) → begins n conn e ≡ false → last_pinged configs (log ++ e ∷ []) n conn ≡ last_pinged configs log n conn
+pub last_pinged-kept : (configs : List Config) (log : List Entry) (e : Entry) (n conn : ℕ) → begins n conn log e ≡ false → last_pinged configs (log ++ e ∷ []) n conn ≡ last_pinged configs log n conn
 last_pinged-kept configs log e n conn none =
     last_pinged-told configs log e n conn ∙ ap (λ b. cond b (counted_now e.event.at (taken log e) e.puts (last_pinged configs log n conn)) (last_pinged configs log n conn)) none
 
@@ -156,11 +155,11 @@ counted_from frequency at items None = cond (list_any is_answer items) (Some at)
 counted_from frequency at items (Some from) = cond (is_past frequency at (Some from)) (Some at) (Some from)
 
 abbrev pub pinged_by : ℕ → ℕ → ℕ → List Entry → Entry → Option ℕ → Option ℕ
-pinged_by frequency n conn before e last = cond (begins n conn e) (counted_from frequency e.event.at (taken before e) last) last
+pinged_by frequency n conn before e last = cond (begins n conn before e) (counted_from frequency e.event.at (taken before e) last) last
 
 -- a step that is done puts a ping exactly where one is due
 abbrev pub PingsWhenDue : List Config → List Entry → Entry → ℕ → ℕ → Type 0
-PingsWhenDue configs log e n conn = begins n conn e ≡ true → puts_ping (taken log e) e.puts ≡ ping_is_due configs log n conn e.event.at
+PingsWhenDue configs log e n conn = begins n conn log e ≡ true → puts_ping (taken log e) e.puts ≡ ping_is_due configs log n conn e.event.at
 
 counts_due : (frequency at : ℕ) (items : List Item) (puts : List (Queue × Item)) (last : Option ℕ) → puts_ping items puts ≡ is_past frequency at last → counted_now at items puts last ≡ counted_from frequency at items last
 counts_due frequency at items puts None h = ap (λ b. cond b (Some at) (cond (list_any is_answer items) (Some at) None)) h
@@ -168,7 +167,7 @@ counts_due frequency at items puts (Some from) h = ap (λ b. cond b (Some at) (S
 
 pub last_pinged-append : (configs : List Config) (log : List Entry) (e : Entry) (n conn : ℕ) → PingsWhenDue configs log e n conn
     → last_pinged configs (log ++ e ∷ []) n conn ≡ pinged_by (ping_frequency_at configs n) n conn log e (last_pinged configs log n conn)
-last_pinged-append configs log e n conn due = last_pinged-told configs log e n conn ∙ by (begins n conn e) due
+last_pinged-append configs log e n conn due = last_pinged-told configs log e n conn ∙ by (begins n conn log e) due
   where
     last : Option ℕ
     last = last_pinged configs log n conn

@@ -1,5 +1,5 @@
 -- What one more entry makes of what a node's router has: the channels that want lists, the routes, and the lists that it put.
-use Rattle.std.proofs.Common.{◌≡◌, ℕ, Bool, true, false, cond, List, [], ◌∷◌, ◌++◌, length, refl, ap, sym, ◌∙◌, arith, append-nil, Some, None}
+use Rattle.std.proofs.Common.{◌≡◌, ℕ, Bool, true, false, cond, List, [], ◌∷◌, ◌++◌, length, refl, ap, sym, ◌∙◌, arith, append-nil, eq-eqb, Some, None}
 use Rattle.std.specs.Prelude.{◌==◌, ◌&&◌, flat_map, unwrap_or}
 use Rattle.std.specs.List.{list_any}
 use Rattle.std.proofs.lemmas.Bool.Decides.{nat_tests}
@@ -14,14 +14,17 @@ use Rattle.p2p_log.specs.declared.entry.Entry.{Entry}
 use Rattle.p2p_log.specs.declared.event.Act.{Act}
 use Rattle.p2p_log.specs.declared.event.Act.TheVariants as act
 use Rattle.p2p_log.specs.QueueCode.{same_queue}
-use Rattle.p2p_log_rules.specs.Facts.{steps_router, routed_by, wants_lists, subscribers, with_ready, without_key, with_route, routes_told, routes, peers_told}
+use Rattle.p2p_log_rules.specs.Facts.{wants_lists, subscribers, with_ready, without_key, with_route, routes_told, routes, peers_told}
 use Rattle.p2p_log_rules.specs.Routed.{routed_tells, listed_tells, lists_peers, peers_in}
 use Rattle.p2p_log_rules.specs.Taking.{taken, state_from}
 use Rattle.p2p_log_rules.specs.Tellings.{Telling, last_or}
 use Rattle.p2p_log_rules.specs.Tellings as telling
 use Rattle.p2p_log_rules.specs.Told.{act_tells, tells, told}
+use Rattle.p2p_log_rules.proofs.Acted.{tells_as, TellsNone, collected-append, collected-kept}
 use Rattle.p2p_log_rules.proofs.Families.{kind, kinds_of, has, are_apart, untold_of}
-use Rattle.p2p_log_rules.proofs.Tellings.{told-append, last_or-append}
+use Rattle.p2p_log_rules.proofs.Ignoring.{flat_map-none}
+use Rattle.p2p_log_rules.proofs.Routed.{router_quiet}
+use Rattle.p2p_log_rules.proofs.Tellings.{or_left, or_right, append_quiet, told-append, last_or-append}
 
 -- ---- what is told by a step of a router, and by another act
 
@@ -32,165 +35,127 @@ untold_kinds js ts log e h = untold_of (λ t. has js (kind t)) js (λ t k. k) ts
 abbrev acts_tell : List Telling → List Entry → Entry → Act → List Telling
 acts_tell ts log e a = act_tells ts log (length log) e.event.at e.event.seed e.reply (taken log e) e.puts a
 
--- ---- the channels that want lists
+-- ---- what a router has, after tellings
 
-abbrev pub subscriber_of : Item → List ℕ
-subscriber_of (item.Subscribe c) = c ∷ []
-subscriber_of _ = []
+-- what tells of a router
+abbrev pub route_kinds : List ℕ
+route_kinds = 70 ∷ 71 ∷ 72 ∷ []
 
-module _ (n : ℕ) where
-  one_wants : (m : ℕ) (i : Item) → flat_map (wants_lists n) (routed_tells m i) ≡ cond (m == n) (subscriber_of i) []
-  one_wants m (item.Subscribe c) = by (m == n)
-    where
-      by : (b : Bool) → cond b (c ∷ []) [] ++ [] ≡ cond b (c ∷ []) []
-      by true = refl
-      by false = refl
-  one_wants m (item.Ready conn key) = by (m == n)
-    where
-      by : (b : Bool) → [] ≡ cond {A = List ℕ} b [] []
-      by true = refl
-      by false = refl
-  one_wants m (item.Release key) = by (m == n)
-    where
-      by : (b : Bool) → [] ≡ cond {A = List ℕ} b [] []
-      by true = refl
-      by false = refl
-  one_wants m _ = by (m == n)
-    where
-      by : (b : Bool) → [] ≡ cond {A = List ℕ} b [] []
-      by true = refl
-      by false = refl
-
-  all_want : (m : ℕ) (items : List Item) → flat_map (wants_lists n) (flat_map (routed_tells m) items) ≡ cond (m == n) (flat_map subscriber_of items) []
-  all_want m [] = by (m == n)
-    where
-      by : (b : Bool) → [] ≡ cond {A = List ℕ} b [] []
-      by true = refl
-      by false = refl
-  all_want m (i ∷ items) =
-      flat_map-append (wants_lists n) (routed_tells m i) (flat_map (routed_tells m) items)
-      ∙ (ap (λ l. l ++ flat_map (wants_lists n) (flat_map (routed_tells m) items)) (one_wants m i)
-      ∙ (ap (λ l. cond (m == n) (subscriber_of i) [] ++ l) (all_want m items) ∙ by (m == n) (subscriber_of i) (flat_map subscriber_of items)))
-    where
-      by : (b : Bool) (xs ys : List ℕ) → cond b xs [] ++ cond b ys [] ≡ cond b (xs ++ ys) []
-      by true xs ys = refl
-      by false xs ys = refl
-
-  put_wants : (x : Queue × Item) → flat_map (wants_lists n) (listed_tells x) ≡ []
-  put_wants (queue.Peers m c, item.Peers keys) = refl
-  put_wants _ = refl
-
-  puts_want : (puts : List (Queue × Item)) → flat_map (wants_lists n) (flat_map listed_tells puts) ≡ []
-  puts_want [] = refl
-  puts_want (x ∷ puts) =
-      flat_map-append (wants_lists n) (listed_tells x) (flat_map listed_tells puts)
-      ∙ (ap (λ l. l ++ flat_map (wants_lists n) (flat_map listed_tells puts)) (put_wants x) ∙ puts_want puts)
-
-  none_wants : (ts : List Telling) → list_any (λ t. has (70 ∷ []) (kind t)) ts ≡ false → flat_map (wants_lists n) ts ≡ []
-  none_wants [] h = refl
-  none_wants (telling.lists_wanted m c ∷ ts) h = cc
-  none_wants (t ∷ ts) h = none_wants ts h
-
-  wanted_by : (ts : List Telling) (log : List Entry) (e : Entry) → flat_map (wants_lists n) (tells ts log e) ≡ flat_map subscriber_of (routed_by n log e)
-  unfolding tells
-  wanted_by ts log e = by e.event.act refl
-    where
-      either : (b : Bool) → cond b (flat_map subscriber_of (taken log e)) [] ≡ flat_map subscriber_of (cond b (taken log e) [])
-      either true = refl
-      either false = refl
-
-      by : (a : Act) → e.event.act ≡ a → flat_map (wants_lists n) (tells ts log e) ≡ flat_map subscriber_of (cond (steps_router n a) (taken log e) [])
-      by (act.Router m) is =
-          ap (λ a. flat_map (wants_lists n) (acts_tell ts log e a)) is
-          ∙ (flat_map-append (wants_lists n) (flat_map (routed_tells m) (taken log e)) (flat_map listed_tells e.puts)
-          ∙ (ap (λ l. flat_map (wants_lists n) (flat_map (routed_tells m) (taken log e)) ++ l) (puts_want e.puts)
-          ∙ (append-nil (flat_map (wants_lists n) (flat_map (routed_tells m) (taken log e))) ∙ (all_want m (taken log e) ∙ either (m == n)))))
-      by a is = none_wants (tells ts log e) (untold_kinds (70 ∷ []) ts log e (ap (λ b. are_apart (kinds_of b) (70 ∷ [])) is))
-
-pub subscribers-append :
-    (log : List Entry) (e : Entry) (n : ℕ) → subscribers (log ++ e ∷ []) n ≡ subscribers log n ++ flat_map subscriber_of (routed_by n log e)
-unfolding subscribers
-subscribers-append log e n =
-    ap (flat_map (wants_lists n)) (told-append log e)
-    ∙ (flat_map-append (wants_lists n) (told log) (tells (told log) log e) ∙ ap (λ l. flat_map (wants_lists n) (told log) ++ l) (wanted_by n (told log) log e))
-
--- ---- the routes
-
--- once these were routed
-abbrev pub routes_after : List (ℕ × ℕ) → List Item → List (ℕ × ℕ)
-routes_after routes [] = routes
-routes_after routes (x ∷ xs) = routes_after (with_route routes x) xs
+-- whether it is told of a node's router
+abbrev pub of_router : ℕ → Telling → Bool
+of_router n (telling.lists_wanted m c) = m == n
+of_router n (telling.ready_routed m conn key) = m == n
+of_router n (telling.release_routed m key) = m == n
+of_router n _ = false
 
 module _ (n : ℕ) where
-  routes_told-append : (r : List (ℕ × ℕ)) (ts us : List Telling) → routes_told n r (ts ++ us) ≡ routes_told n (routes_told n r ts) us
+  pub routes_told-append : (r : List (ℕ × ℕ)) (ts us : List Telling) → routes_told n r (ts ++ us) ≡ routes_told n (routes_told n r ts) us
   routes_told-append r [] us = refl
   routes_told-append r (telling.ready_routed m conn key ∷ ts) us = routes_told-append (cond (m == n) (with_ready r conn key) r) ts us
   routes_told-append r (telling.release_routed m key ∷ ts) us = routes_told-append (cond (m == n) (without_key r key) r) ts us
   routes_told-append r (t ∷ ts) us = routes_told-append r ts us
 
-  one_routed : (m : ℕ) (r : List (ℕ × ℕ)) (i : Item) → routes_told n r (routed_tells m i) ≡ cond (m == n) (with_route r i) r
-  one_routed m r (item.Ready conn key) = refl
-  one_routed m r (item.Release key) = refl
-  one_routed m r (item.Subscribe c) = by (m == n)
+  unwanted : (t : Telling) → of_router n t ≡ false → wants_lists n t ≡ []
+  unwanted (telling.lists_wanted m c) h = ap (λ b. cond b (c ∷ []) []) h
+  unwanted _ h = refl
+
+  unrouted : (r : List (ℕ × ℕ)) (ts : List Telling) → list_any (of_router n) ts ≡ false → routes_told n r ts ≡ r
+  unrouted r [] h = refl
+  unrouted r (telling.ready_routed m conn key ∷ ts) h =
+      ap (λ b. routes_told n (cond b (with_ready r conn key) r) ts) (or_left (m == n) (list_any (of_router n) ts) h) ∙ unrouted r ts (or_right (m == n) (list_any (of_router n) ts) h)
+  unrouted r (telling.release_routed m key ∷ ts) h =
+      ap (λ b. routes_told n (cond b (without_key r key) r) ts) (or_left (m == n) (list_any (of_router n) ts) h) ∙ unrouted r ts (or_right (m == n) (list_any (of_router n) ts) h)
+  unrouted r (telling.lists_wanted m c ∷ ts) h = unrouted r ts (or_right (m == n) (list_any (of_router n) ts) h)
+  unrouted r (t ∷ ts) h = unrouted r ts h
+
+  of_kinds : (t : Telling) → has route_kinds (kind t) ≡ false → of_router n t ≡ false
+  of_kinds (telling.lists_wanted m c) h = cc
+  of_kinds (telling.ready_routed m conn key) h = cc
+  of_kinds (telling.release_routed m key) h = cc
+  of_kinds _ h = refl
+
+  -- the lists that it puts tell nothing of these
+  put_quiet : (x : Queue × Item) → list_any (of_router n) (listed_tells x) ≡ false
+  put_quiet (queue.Peers m c, item.Peers keys) = refl
+  put_quiet _ = refl
+
+  puts_quiet : (puts : List (Queue × Item)) → list_any (of_router n) (flat_map listed_tells puts) ≡ false
+  puts_quiet [] = refl
+  puts_quiet (x ∷ puts) = append_quiet (of_router n) (listed_tells x) (flat_map listed_tells puts) (put_quiet x) (puts_quiet puts)
+
+  -- what it takes
+  pub routes_told-item : (r : List (ℕ × ℕ)) (i : Item) → routes_told n r (routed_tells n i) ≡ with_route r i
+  routes_told-item r (item.Ready conn key) = ap (λ b. cond b (with_ready r conn key) r) (eq-eqb n n refl)
+  routes_told-item r (item.Release key) = ap (λ b. cond b (without_key r key) r) (eq-eqb n n refl)
+  routes_told-item r (item.Subscribe c) = refl
+  routes_told-item r _ = refl
+
+  pub wants_lists-item : (c : ℕ) → flat_map (wants_lists n) (routed_tells n (item.Subscribe c)) ≡ c ∷ []
+  wants_lists-item c = ap (λ b. cond b (c ∷ []) [] ++ []) (eq-eqb n n refl)
+
+-- ---- after one more entry
+
+module _ (log : List Entry) (e : Entry) (n : ℕ) where
+  -- which tells nothing of the router
+  abbrev pub TellsNoRouter : Type 0
+  TellsNoRouter = list_any (of_router n) (tells (told log) log e) ≡ false
+
+  pub router_apart : TellsNone log e route_kinds → TellsNoRouter
+  router_apart apart = untold_of (of_router n) route_kinds (of_kinds n) (told log) log e apart
+
+  pub router_elsewhere : (m : ℕ) → e.event.act ≡ act.Router m → (m == n) ≡ false → TellsNoRouter
+  router_elsewhere m is away =
+      ap (list_any (of_router n)) (tells_as (told log) log e (act.Router m) is)
+      ∙ router_quiet (of_router n) m (record { wants = λ c. away; ready = λ conn key. away; release = λ key. away; list = λ k c keys. refl }) (taken log e) e.puts
+
+  pub router_untaken : taken log e ≡ [] → TellsNoRouter
+  router_untaken none = by e.event.act refl
     where
-      by : (b : Bool) → r ≡ cond b r r
-      by true = refl
-      by false = refl
-  one_routed m r _ = by (m == n)
-    where
-      by : (b : Bool) → r ≡ cond b r r
-      by true = refl
-      by false = refl
-
-  all_routed : (m : ℕ) (r : List (ℕ × ℕ)) (items : List Item) → routes_told n r (flat_map (routed_tells m) items) ≡ cond (m == n) (routes_after r items) r
-  all_routed m r [] = by (m == n)
-    where
-      by : (b : Bool) → r ≡ cond b r r
-      by true = refl
-      by false = refl
-  all_routed m r (i ∷ items) =
-      routes_told-append r (routed_tells m i) (flat_map (routed_tells m) items)
-      ∙ (ap (λ s. routes_told n s (flat_map (routed_tells m) items)) (one_routed m r i)
-      ∙ (all_routed m (cond (m == n) (with_route r i) r) items ∙ by (m == n)))
-    where
-      by : (b : Bool) → cond b (routes_after (cond b (with_route r i) r) items) (cond b (with_route r i) r) ≡ cond b (routes_after (with_route r i) items) r
-      by true = refl
-      by false = refl
-
-  none_routed : (r : List (ℕ × ℕ)) (ts : List Telling) → list_any (λ t. has (71 ∷ 72 ∷ []) (kind t)) ts ≡ false → routes_told n r ts ≡ r
-  none_routed r [] h = refl
-  none_routed r (telling.ready_routed m conn key ∷ ts) h = cc
-  none_routed r (telling.release_routed m key ∷ ts) h = cc
-  none_routed r (t ∷ ts) h = none_routed r ts h
-
-  put_routed : (r : List (ℕ × ℕ)) (x : Queue × Item) → routes_told n r (listed_tells x) ≡ r
-  put_routed r (queue.Peers m c, item.Peers keys) = refl
-  put_routed r _ = refl
-
-  puts_routed : (r : List (ℕ × ℕ)) (puts : List (Queue × Item)) → routes_told n r (flat_map listed_tells puts) ≡ r
-  puts_routed r [] = refl
-  puts_routed r (x ∷ puts) =
-      routes_told-append r (listed_tells x) (flat_map listed_tells puts) ∙ (ap (λ s. routes_told n s (flat_map listed_tells puts)) (put_routed r x) ∙ puts_routed r puts)
-
-  routed_entry : (ts : List Telling) (log : List Entry) (e : Entry) (r : List (ℕ × ℕ)) → routes_told n r (tells ts log e) ≡ routes_after r (routed_by n log e)
-  unfolding tells
-  routed_entry ts log e r = by e.event.act refl
-    where
-      either : (b : Bool) → cond b (routes_after r (taken log e)) r ≡ routes_after r (cond b (taken log e) [])
-      either true = refl
-      either false = refl
-
-      by : (a : Act) → e.event.act ≡ a → routes_told n r (tells ts log e) ≡ routes_after r (cond (steps_router n a) (taken log e) [])
+      by : (a : Act) → e.event.act ≡ a → TellsNoRouter
       by (act.Router m) is =
-          ap (λ a. routes_told n r (acts_tell ts log e a)) is
-          ∙ (routes_told-append r (flat_map (routed_tells m) (taken log e)) (flat_map listed_tells e.puts)
-          ∙ (puts_routed (routes_told n r (flat_map (routed_tells m) (taken log e))) e.puts ∙ (all_routed m r (taken log e) ∙ either (m == n))))
-      by a is = none_routed r (tells ts log e) (untold_kinds (71 ∷ 72 ∷ []) ts log e (ap (λ b. are_apart (kinds_of b) (71 ∷ 72 ∷ [])) is))
+          ap (list_any (of_router n)) (tells_as (told log) log e (act.Router m) is)
+          ∙ (ap (λ items. list_any (of_router n) (flat_map (routed_tells m) items ++ flat_map listed_tells e.puts)) none ∙ puts_quiet n e.puts)
+      by a is = router_apart (ap (λ b. are_apart (kinds_of b) route_kinds) is)
 
-pub routes-append : (log : List Entry) (e : Entry) (n : ℕ) → routes (log ++ e ∷ []) n ≡ routes_after (routes log n) (routed_by n log e)
-unfolding routes
-routes-append log e n =
-    ap (routes_told n []) (told-append log e) ∙ (routes_told-append n [] (told log) (tells (told log) log e) ∙ routed_entry n (told log) log e (routes_told n [] (told log)))
+  pub subscribers-kept : TellsNoRouter → subscribers (log ++ e ∷ []) n ≡ subscribers log n
+  unfolding subscribers
+  subscribers-kept none = collected-kept log e (wants_lists n) (flat_map-none (of_router n) (wants_lists n) (unwanted n) (tells (told log) log e) none)
+
+  pub routes-kept : TellsNoRouter → routes (log ++ e ∷ []) n ≡ routes log n
+  unfolding routes
+  routes-kept none =
+      ap (routes_told n []) (told-append log e) ∙ (routes_told-append n [] (told log) (tells (told log) log e) ∙ unrouted n (routes_told n [] (told log)) (tells (told log) log e) none)
+
+  -- a step of the router
+  module _ (is : e.event.act ≡ act.Router n) where
+    pub routes-step : routes (log ++ e ∷ []) n ≡ routes_told n (routes log n) (flat_map (routed_tells n) (taken log e))
+    unfolding routes
+    routes-step =
+        let items = flat_map (routed_tells n) (taken log e) in
+        ap (routes_told n []) (told-append log e ∙ ap (λ ts. told log ++ ts) (tells_as (told log) log e (act.Router n) is))
+        ∙ (routes_told-append n [] (told log) (items ++ flat_map listed_tells e.puts)
+        ∙ (routes_told-append n (routes_told n [] (told log)) items (flat_map listed_tells e.puts)
+        ∙ unrouted n (routes_told n (routes_told n [] (told log)) items) (flat_map listed_tells e.puts) (puts_quiet n e.puts)))
+
+    -- that takes this
+    module _ (i : Item) (took : taken log e ≡ i ∷ []) where
+      pub subscribers-routed : subscribers (log ++ e ∷ []) n ≡ subscribers log n ++ flat_map (wants_lists n) (routed_tells n i)
+      unfolding subscribers
+      subscribers-routed =
+          let f = wants_lists n in
+          let listed = flat_map listed_tells e.puts in
+          collected-append log e f
+          ∙ ap (λ l. flat_map f (told log) ++ l)
+          (ap (flat_map f) (tells_as (told log) log e (act.Router n) is ∙ ap (λ items. flat_map (routed_tells n) items ++ listed) took)
+          ∙ (flat_map-append f (routed_tells n i ++ []) listed
+          ∙ (ap (λ l. flat_map f (routed_tells n i ++ []) ++ l) (flat_map-none (of_router n) f (unwanted n) listed (puts_quiet n e.puts))
+          ∙ (append-nil (flat_map f (routed_tells n i ++ [])) ∙ ap (flat_map f) (append-nil (routed_tells n i))))))
+
+      pub routes-routed : routes (log ++ e ∷ []) n ≡ with_route (routes log n) i
+      routes-routed =
+          routes-step
+          ∙ (ap (λ items. routes_told n (routes log n) (flat_map (routed_tells n) items)) took
+          ∙ (ap (routes_told n (routes log n)) (append-nil (routed_tells n i)) ∙ routes_told-item n (routes log n) i))
 
 pub router-none : (n : ℕ) → (subscribers [] n ≡ []) × (routes [] n ≡ [])
 unfolding subscribers routes told state_from

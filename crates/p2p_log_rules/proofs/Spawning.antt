@@ -7,7 +7,7 @@ use Rattle.p2p_log.specs.declared.entry.Entry.{Entry}
 use Rattle.p2p_log.specs.declared.event.Act.{Act}
 use Rattle.p2p_log.specs.declared.event.Act.TheVariants as act
 use Rattle.p2p_log_rules.specs.Facts.{taken, with_begun}
-use Rattle.p2p_log_rules.specs.Halves.{makes, connection_in}
+use Rattle.p2p_log_rules.specs.Halves.{makes_connection, connection_in}
 use Rattle.p2p_log_rules.specs.Spawning.{Spawned, steps_spawner, spawned_of, connections_of}
 use Rattle.p2p_log_rules.specs.Tellings.{Telling, last_or}
 use Rattle.p2p_log_rules.specs.Tellings as telling
@@ -25,14 +25,14 @@ acted_connections n name items _ connections k = connections k
 
 module _ (n k : ℕ) where
   makes_one : Telling → Bool
-  makes_one t = is_some (makes n k t)
+  makes_one t = is_some (makes_connection n k t)
 
-  none_made : (ts : List Telling) (o : Option Spawned) → list_any makes_one ts ≡ false → last_or o (makes n k) ts ≡ o
+  none_made : (ts : List Telling) (o : Option Spawned) → list_any makes_one ts ≡ false → last_or o (makes_connection n k) ts ≡ o
   unfolding makes_one
   none_made [] o h = refl
-  none_made (t ∷ ts) o h = by (makes n k t) (or_left (makes_one t) (list_any makes_one ts) h) ∙ none_made ts o (or_right (makes_one t) (list_any makes_one ts) h)
+  none_made (t ∷ ts) o h = by (makes_connection n k t) (or_left (makes_one t) (list_any makes_one ts) h) ∙ none_made ts o (or_right (makes_one t) (list_any makes_one ts) h)
     where
-      by : (new : Option (Option Spawned)) → is_some new ≡ false → last_or (unwrap_or new o) (makes n k) ts ≡ last_or o (makes n k) ts
+      by : (new : Option (Option Spawned)) → is_some new ≡ false → last_or (unwrap_or new o) (makes_connection n k) ts ≡ last_or o (makes_connection n k) ts
       by None none = refl
       by (Some x) none = cc
 
@@ -41,7 +41,7 @@ module _ (n k : ℕ) where
   of_kinds (telling.connection_made m j key link) h = cc
   of_kinds _ h = refl
 
-  spawned : (m name : ℕ) (items : List Item) (f : ℕ → Option Spawned) → last_or (f k) (makes n k) (spawn_tells m name items) ≡ cond (m == n) (with_begun (spawned_of items) name f k) (f k)
+  spawned : (m name : ℕ) (items : List Item) (f : ℕ → Option Spawned) → last_or (f k) (makes_connection n k) (spawn_tells m name items) ≡ cond (m == n) (with_begun (spawned_of items) name f k) (f k)
   spawned m name (item.Spawn key link ∷ items) f = by (m == n) (k == name)
     where
       by : (b c : Bool) → unwrap_or (cond (b && c) (Some (Some (record { key = key; link = link }))) None) (f k) ≡ cond b (cond c (Some (record { key = key; link = link })) (f k)) (f k)
@@ -55,19 +55,19 @@ module _ (n k : ℕ) where
       either false o = refl
 
 -- what an entry makes of the connection of this name
-made_by : (ts : List Telling) (log : List Entry) (e : Entry) (n k : ℕ) (f : ℕ → Option Spawned) → last_or (f k) (makes n k) (tells ts log e) ≡ acted_connections n (length log) (taken log e) e.event.act f k
+made_by : (ts : List Telling) (log : List Entry) (e : Entry) (n k : ℕ) (f : ℕ → Option Spawned) → last_or (f k) (makes_connection n k) (tells ts log e) ≡ acted_connections n (length log) (taken log e) e.event.act f k
 unfolding tells
 made_by ts log e n k f = by e.event.act refl
   where
-    by : (a : Act) → e.event.act ≡ a → last_or (f k) (makes n k) (tells ts log e) ≡ acted_connections n (length log) (taken log e) a f k
+    by : (a : Act) → e.event.act ≡ a → last_or (f k) (makes_connection n k) (tells ts log e) ≡ acted_connections n (length log) (taken log e) a f k
     by (act.Spawner m) is =
-        ap (λ a. last_or (f k) (makes n k) (act_tells ts log (length log) e.event.at e.event.seed e.reply (taken log e) e.puts a)) is ∙ spawned n k m (length log) (taken log e) f
+        ap (λ a. last_or (f k) (makes_connection n k) (act_tells ts log (length log) e.event.at e.event.seed e.reply (taken log e) e.puts a)) is ∙ spawned n k m (length log) (taken log e) f
     by a is = none_made n k (tells ts log e) (f k) (untold_of (makes_one n k) (15 ∷ []) (of_kinds n k) ts log e (ap (λ b. are_apart (kinds_of b) (15 ∷ [])) is))
 
 pub connections_of-append : (log : List Entry) (e : Entry) (n k : ℕ) → connections_of (log ++ e ∷ []) n k ≡ acted_connections n (length log) (taken log e) e.event.act (connections_of log n) k
 unfolding connections_of
 connections_of-append log e n k =
-    ap (last_or None (makes n k)) (told-append log e) ∙ (last_or-append None (makes n k) (told log) (tells (told log) log e) ∙ made_by (told log) log e n k (connections_of log n))
+    ap (last_or None (makes_connection n k)) (told-append log e) ∙ (last_or-append None (makes_connection n k) (told log) (tells (told log) log e) ∙ made_by (told log) log e n k (connections_of log n))
 
 acted_none : (n m : ℕ) (items : List Item) (a : Act) (k : ℕ) → suc m ≤ k → acted_connections n m items a (λ j. None) k ≡ None
 acted_none n m items (act.Spawner j) k past = either_none (j == n) (with_begun (spawned_of items) m (λ i. None) k) None (begun_none (spawned_of items) m k (λ i. None) (λ i h. refl) past) refl
@@ -110,8 +110,8 @@ connections_of-late log n k past = late_told (λ ts j. connection_in ts n j) (λ
   where
     each : (before : List Entry) (e : Entry) (ts : List Telling) (j : ℕ) → suc (length before) ≤ j → connection_in ts n j ≡ None → connection_in (ts ++ tells ts before e) n j ≡ None
     each before e ts j later none =
-        last_or-append None (makes n j) ts (tells ts before e)
-        ∙ (ap (λ o. last_or o (makes n j) (tells ts before e)) none
+        last_or-append None (makes_connection n j) ts (tells ts before e)
+        ∙ (ap (λ o. last_or o (makes_connection n j) (tells ts before e)) none
         ∙ (made_by ts before e n j (λ i. None) ∙ acted_none n (length before) (taken before e) e.event.act j later))
 
 -- one that was made stays

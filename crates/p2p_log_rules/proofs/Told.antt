@@ -1,6 +1,6 @@
 -- What an act may tell: where a test holds of none of that, it holds of nothing that the act tells. The one proof that looks at acts.
 use Rattle.std.proofs.Common.{◌≡◌, ℕ, Bool, true, false, List, [], ◌∷◌, ◌++◌, refl, ap, ◌∙◌, Option, Some, None}
-use Rattle.std.specs.Prelude.{◌||◌, not}
+use Rattle.std.specs.Prelude.{◌&&◌, ◌||◌, not}
 use Rattle.std.specs.List.{list_any}
 use Rattle.p2p_base.specs.declared.key.Key.{Key}
 use Rattle.p2p_address.specs.declared.ip.IpAddr.{IpAddr}
@@ -19,15 +19,16 @@ use Rattle.p2p_log.specs.declared.entry.Reply.TheVariants as reply
 use Rattle.p2p_log.specs.declared.event.Act.{Act}
 use Rattle.p2p_log.specs.declared.event.Act.TheVariants as act
 use Rattle.p2p_log_rules.specs.declared.row.Half.{Half}
-use Rattle.p2p_log_rules.specs.HalfSteps.{puts_ping, holds}
+use Rattle.p2p_log_rules.specs.HalfSteps.{is_end, puts_ping, holds}
 use Rattle.p2p_log_rules.specs.Halves.{half_in}
 use Rattle.p2p_log_rules.specs.HandshakeSteps.{ends_handshake, peer_at}
 use Rattle.p2p_log_rules.specs.Puts.{gave_up, ends_attempt, broke_off, is_answer, turns_away, arrival_link}
 use Rattle.p2p_log_rules.specs.Tellings.{Telling, last_or}
 use Rattle.p2p_log_rules.specs.Tellings as telling
-use Rattle.p2p_log_rules.specs.Told.{listening_dropped, pinged_tells, admitted_tells, check_tells, judged_tells, heard_tells, admitted_in, spawn_tells, admitted_as, begun_tells, arrival_tells, handshake_tells, sender_tells, end_tells, when, done_tells, asks_list, link_in, dialing_dropped, half_tells, gates_tell, answer_tells, ask_tells, took_tells, left_tells, link_tells, act_tells}
+use Rattle.p2p_log_rules.specs.Told.{listening_dropped, received_tells, admitted_tells, check_tells, judged_tells, heard_tells, admitted_in, spawn_tells, admitted_as, begun_tells, arrival_tells, handshake_tells, sender_tells, over_tells, when, done_tells, asks_list, link_in, dialing_dropped, half_dropped, gates_tell, answer_tells, ask_tells, took_tells, left_tells, link_tells, act_tells}
 use Rattle.p2p_log_rules.proofs.Routed.{NoneRouted, router_quiet}
 use Rattle.std.proofs.lemmas.List.Folds.{list_any-append}
+use Rattle.p2p_log_rules.proofs.Bools.{and_false, or_false}
 use Rattle.p2p_log_rules.proofs.Tellings.{append_quiet, when_quiet, done_quiet}
 use Rattle.p2p_log_rules.proofs.Tracked.{NoneTracked, tracker_quiet}
 
@@ -53,10 +54,10 @@ pub record NoneReceived (test : Telling → Bool) (m conn : ℕ) : Type 0 where
   pub drops : (link : ℕ) (s : Side) → test (telling.end_dropped link s) ≡ false
 
 -- nor one of its sending half
-pub record NoneSent (test : Telling → Bool) (m conn : ℕ) : Type 0 where
+pub record NoneSent (test : Telling → Bool) (m conn at : ℕ) : Type 0 where
   pub step : test (telling.half_stepped m conn) ≡ false
-  pub answer : test (telling.answer_heard m conn) ≡ false
-  pub ends : NoneReceived test m conn
+  pub runs : test (telling.connection_ran m conn at) ≡ false
+  pub pings : test (telling.ping_put m conn at) ≡ false
 
 -- nor a step of a node's listener
 pub record NoneListened (test : Telling → Bool) (m name : ℕ) : Type 0 where
@@ -69,11 +70,6 @@ pub record NoneShaken (test : Telling → Bool) (m h : ℕ) : Type 0 where
   pub took : (items : List Item) → test (telling.handshake_took m h items) ≡ false
   pub over : (link : ℕ) → test (telling.handshake_ended m h link) ≡ false
   pub drops : (link : ℕ) → test (telling.end_dropped link side.In) ≡ false
-
--- nor a step of a sending half of its pings
-pub record NonePinged (test : Telling → Bool) (m conn at : ℕ) : Type 0 where
-  pub runs : test (telling.connection_ran m conn at) ≡ false
-  pub pings : test (telling.ping_put m conn at) ≡ false
 
 -- nor a step of a listener of what it took
 pub record NoneHeard (test : Telling → Bool) (m at : ℕ) : Type 0 where
@@ -89,7 +85,7 @@ module _ (test : Telling → Bool) (name at : ℕ) where
   NoneTold (act.Send bytes c m priority to) = (keys : List Key) → test (telling.sends_admitted m c at keys) ≡ false
   NoneTold (act.Check c m to) = ((keys : List Key) → test (telling.sends_admitted m c at keys) ≡ false) × ((keys : List Key) → test (telling.check_made m name c keys) ≡ false)
   NoneTold (act.SendChecked bytes check priority) = test (telling.check_spent check) ≡ false
-  NoneTold (act.SendStep conn m) = NoneSent test m conn × NonePinged test m conn at
+  NoneTold (act.SendStep conn m) = NoneReceived test m conn × NoneSent test m conn at
   NoneTold (act.RecvStep conn m) = NoneReceived test m conn × ((i : Item) → test (telling.item_admitted m conn at i) ≡ false)
   NoneTold (act.Close c m) = test (telling.reader_dropped m c) ≡ false
   NoneTold (act.Dialer m) = NoneDialed test m name at
@@ -109,10 +105,9 @@ module _ (test : Telling → Bool) (name at : ℕ) where
   more : (t : Telling) (ts : List Telling) → test t ≡ false → list_any test ts ≡ false → list_any test (t ∷ ts) ≡ false
   more t ts h k = ap (λ b. b || list_any test ts) h ∙ k
 
-  pub half_quiet : (r : Reply) (o : Option Half) → ((link : ℕ) (s : Side) → test (telling.end_dropped link s) ≡ false) → list_any test (half_tells r o) ≡ false
-  half_quiet (reply.Ended why) None h = refl
-  half_quiet (reply.Ended why) (Some half) h = one (telling.end_dropped half.link half.writes) (h half.link half.writes)
-  half_quiet _ o h = refl
+  half_quiet : (o : Option Half) → ((link : ℕ) (s : Side) → test (telling.end_dropped link s) ≡ false) → list_any test (half_dropped o) ≡ false
+  half_quiet None h = refl
+  half_quiet (Some half) h = one (telling.end_dropped half.link half.writes) (h half.link half.writes)
 
   turned_quiet : (o : Option ℕ) → ((link : ℕ) → test (telling.end_dropped link side.In) ≡ false) → list_any test (listening_dropped o) ≡ false
   turned_quiet None h = refl
@@ -144,29 +139,37 @@ module _ (test : Telling → Bool) (name at : ℕ) where
       (when_quiet test over (telling.handshake_ended m h link ∷ []) (one (telling.handshake_ended m h link) (none.over link)))
       (when_quiet test broke (telling.end_dropped link side.In ∷ []) (one (telling.end_dropped link side.In) (none.drops link))))
 
-  pub over_quiet : (m conn : ℕ) (r : Reply) (half : Option Half) → NoneReceived test m conn → list_any test (end_tells m conn r ++ half_tells r half) ≡ false
-  over_quiet m conn r half h = append_quiet test (end_tells m conn r) (half_tells r half) (by r) (half_quiet r half h.drops)
+  -- what a half tells of its end is that its connection ended, or nothing of such things
+  pub over_told : (m conn : ℕ) (r : Reply) (half : Option Half) → ((link : ℕ) (s : Side) → test (telling.end_dropped link s) ≡ false)
+      → list_any test (over_tells m conn r half) ≡ (is_end r && test (telling.connection_ended m conn))
+  over_told m conn r half drops = by (is_end r)
     where
-      by : (r : Reply) → list_any test (end_tells m conn r) ≡ false
-      by (reply.Ended why) = one (telling.connection_ended m conn) h.over
-      by _ = refl
+      by : (b : Bool) → list_any test (when b (telling.connection_ended m conn ∷ half_dropped half)) ≡ (b && test (telling.connection_ended m conn))
+      by true = ap (λ c. test (telling.connection_ended m conn) || c) (half_quiet half drops) ∙ or_false (test (telling.connection_ended m conn))
+      by false = refl
 
-  pub sender_quiet : (m conn : ℕ) (r : Reply) (items : List Item) → NoneSent test m conn → list_any test (sender_tells m conn r items) ≡ false
-  sender_quiet m conn r items h =
-      append_quiet test (done_tells r (telling.half_stepped m conn ∷ [])) (when (list_any is_answer items) (telling.answer_heard m conn ∷ []))
-      (done_quiet test r (telling.half_stepped m conn ∷ []) (one (telling.half_stepped m conn) h.step))
-      (when_quiet test (list_any is_answer items) (telling.answer_heard m conn ∷ []) (one (telling.answer_heard m conn) h.answer))
+  pub over_quiet : (m conn : ℕ) (r : Reply) (half : Option Half) → NoneReceived test m conn → list_any test (over_tells m conn r half) ≡ false
+  over_quiet m conn r half h = over_told m conn r half h.drops ∙ (ap (λ b. is_end r && b) h.over ∙ and_false (is_end r))
 
-  pub pinged_quiet : (m conn : ℕ) (items : List Item) (puts : List (Queue × Item)) → NonePinged test m conn at → list_any test (pinged_tells m conn at items puts) ≡ false
-  pinged_quiet m conn items puts h =
-      append_quiet test (when (list_any is_answer items) (telling.connection_ran m conn at ∷ [])) (when (puts_ping items puts) (telling.ping_put m conn at ∷ []))
+  -- and what else it tells
+  pub half_told : (m conn : ℕ) (r : Reply) (half : Option Half) (ts : List Telling) → ((link : ℕ) (s : Side) → test (telling.end_dropped link s) ≡ false)
+      → list_any test (over_tells m conn r half ++ ts) ≡ ((is_end r && test (telling.connection_ended m conn)) || list_any test ts)
+  half_told m conn r half ts drops = list_any-append test (over_tells m conn r half) ts ∙ ap (λ b. b || list_any test ts) (over_told m conn r half drops)
+
+  pub sender_quiet : (m conn : ℕ) (r : Reply) (items : List Item) (puts : List (Queue × Item)) → NoneSent test m conn at → list_any test (done_tells r (sender_tells m conn at items puts)) ≡ false
+  sender_quiet m conn r items puts h =
+      done_quiet test r (sender_tells m conn at items puts)
+      (more (telling.half_stepped m conn) (when (list_any is_answer items) (telling.connection_ran m conn at ∷ []) ++ when (puts_ping items puts) (telling.ping_put m conn at ∷ [])) h.step
+      (append_quiet test (when (list_any is_answer items) (telling.connection_ran m conn at ∷ [])) (when (puts_ping items puts) (telling.ping_put m conn at ∷ []))
       (when_quiet test (list_any is_answer items) (telling.connection_ran m conn at ∷ []) (one (telling.connection_ran m conn at) h.runs))
-      (when_quiet test (puts_ping items puts) (telling.ping_put m conn at ∷ []) (one (telling.ping_put m conn at) h.pings))
+      (when_quiet test (puts_ping items puts) (telling.ping_put m conn at ∷ []) (one (telling.ping_put m conn at) h.pings))))
 
   pub admitted_quiet : (m conn : ℕ) (r : Reply) (items : List Item) (puts : List (Queue × Item)) → ((i : Item) → test (telling.item_admitted m conn at i) ≡ false) → list_any test (admitted_tells m conn at r items puts) ≡ false
-  admitted_quiet m conn (reply.Ended why) items puts h = refl
-  admitted_quiet m conn _ [] puts h = refl
-  admitted_quiet m conn _ (i ∷ items) puts h = when_quiet test (not (holds puts)) (telling.item_admitted m conn at i ∷ []) (one (telling.item_admitted m conn at i) (h i))
+  admitted_quiet m conn r items puts h = when_quiet test (not (is_end r)) (received_tells m conn at items puts) (by items)
+    where
+      by : (items : List Item) → list_any test (received_tells m conn at items puts) ≡ false
+      by [] = refl
+      by (i ∷ items) = when_quiet test (not (holds puts)) (telling.item_admitted m conn at i ∷ []) (one (telling.item_admitted m conn at i) (h i))
 
   check_quiet : (m c : ℕ) (r : Reply) → ((keys : List Key) → test (telling.check_made m name c keys) ≡ false) → list_any test (check_tells m name c r) ≡ false
   check_quiet m c (reply.Checked keys) h = one (telling.check_made m name c keys) (h keys)
@@ -180,20 +183,6 @@ module _ (test : Telling → Bool) (name at : ℕ) where
   heard_quiet m r (item.Addresses addresses ∷ items) h = one (telling.update_taken m addresses) (h.update addresses)
   heard_quiet m r (item.Arrival from key link ∷ items) h = judged_quiet m from.ip r h
   heard_quiet m r _ h = refl
-
-  -- and what is told of it before them
-  any_before : (ts us : List Telling) → list_any test us ≡ false → list_any test (ts ++ us) ≡ list_any test ts
-  any_before ts us none = list_any-append test ts us ∙ (ap (λ b. list_any test ts || b) none ∙ by (list_any test ts))
-    where
-      by : (b : Bool) → (b || false) ≡ b
-      by true = refl
-      by false = refl
-
-  pub before_pings : (ts : List Telling) (m conn : ℕ) (r : Reply) (items : List Item) (puts : List (Queue × Item)) → NonePinged test m conn at → list_any test (ts ++ done_tells r (pinged_tells m conn at items puts)) ≡ list_any test ts
-  before_pings ts m conn r items puts h = any_before ts (done_tells r (pinged_tells m conn at items puts)) (done_quiet test r (pinged_tells m conn at items puts) (pinged_quiet m conn items puts h))
-
-  pub before_admitted : (ts : List Telling) (m conn : ℕ) (r : Reply) (items : List Item) (puts : List (Queue × Item)) → ((i : Item) → test (telling.item_admitted m conn at i) ≡ false) → list_any test (ts ++ admitted_tells m conn at r items puts) ≡ list_any test ts
-  before_admitted ts m conn r items puts h = any_before ts (admitted_tells m conn at r items puts) (admitted_quiet m conn r items puts h)
 
   answer_quiet : (m asked seed : ℕ) (items : List Item) → NoneDialed test m name at → list_any test (answer_tells m asked name at seed items) ≡ false
   answer_quiet m asked seed (item.Dialable next peers ∷ items) h = more (telling.list_taken m asked seed next peers) (telling.answer_taken m ∷ []) (h.list asked seed next peers) (one (telling.answer_taken m) h.answer)
@@ -247,11 +236,9 @@ module _ (test : Telling → Bool) (name at : ℕ) where
   quiet_act ts before seed r items puts (act.Check c m to) h = more (telling.sends_admitted m c at (admitted_in ts m c at to)) (check_tells m name c r) (h.0 (admitted_in ts m c at to)) (check_quiet m c r h.1)
   quiet_act ts before seed r items puts (act.SendChecked bytes check priority) h = one (telling.check_spent check) h
   quiet_act ts before seed r items puts (act.SendStep conn m) h =
-      append_quiet test (sender_tells m conn r items ++ (end_tells m conn r ++ half_tells r (half_in ts m conn))) (done_tells r (pinged_tells m conn at items puts))
-      (append_quiet test (sender_tells m conn r items) (end_tells m conn r ++ half_tells r (half_in ts m conn)) (sender_quiet m conn r items h.0) (over_quiet m conn r (half_in ts m conn) h.0.ends))
-      (done_quiet test r (pinged_tells m conn at items puts) (pinged_quiet m conn items puts h.1))
+      append_quiet test (over_tells m conn r (half_in ts m conn)) (done_tells r (sender_tells m conn at items puts)) (over_quiet m conn r (half_in ts m conn) h.0) (sender_quiet m conn r items puts h.1)
   quiet_act ts before seed r items puts (act.RecvStep conn m) h =
-      append_quiet test (end_tells m conn r ++ half_tells r (half_in ts m conn)) (admitted_tells m conn at r items puts) (over_quiet m conn r (half_in ts m conn) h.0) (admitted_quiet m conn r items puts h.1)
+      append_quiet test (over_tells m conn r (half_in ts m conn)) (admitted_tells m conn at r items puts) (over_quiet m conn r (half_in ts m conn) h.0) (admitted_quiet m conn r items puts h.1)
   quiet_act ts before seed r items puts (act.Close c m) h = done_quiet test r (telling.reader_dropped m c ∷ []) (one (telling.reader_dropped m c) h)
   quiet_act ts before seed r items puts (act.Tracker m) h = tracker_quiet test m at h before seed r items puts
   quiet_act ts before seed r items puts (act.Dialer m) h =

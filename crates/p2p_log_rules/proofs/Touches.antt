@@ -14,7 +14,7 @@ use Rattle.p2p_log.specs.declared.event.Recipients.TheVariants as recipients
 use Rattle.p2p_log.specs.QueueCode.{same_queue}
 use Rattle.p2p_log_rules.specs.declared.row.Half.{Half}
 use Rattle.p2p_log_rules.specs.declared.row.Opening.{Opening}
-use Rattle.p2p_log_rules.specs.Checking.{checking_node}
+use Rattle.p2p_log_rules.specs.Checking.{Check, check_of}
 use Rattle.p2p_log_rules.specs.Connections.{half_at}
 use Rattle.p2p_log_rules.specs.Links.{openings_of}
 use Rattle.p2p_log_rules.specs.Reading.{reading_of}
@@ -94,6 +94,11 @@ abbrev pub in_lists : Recipients → ℕ → ℕ → Queue → Bool
 in_lists to n c (queue.Peers m d) = are_all to && ((m == n) && (d == c))
 in_lists to n c _ = false
 
+-- the mailbox of the router to which a message goes by a check
+abbrev pub in_mailbox_of : Option Check → Queue → Bool
+in_mailbox_of o (queue.Router n) = elim o [ None ↦ false | Some c ↦ same_queue (queue.Router c.node) (queue.Router n) ]
+in_mailbox_of o _ = false
+
 -- the queues from which an act takes, after these entries
 abbrev pub reads : List Config → List Entry → Act → Queue → Bool
 reads configs log (act.Send bytes c n priority to) q = in_lists to n c q
@@ -115,7 +120,7 @@ reads configs log a q = elim (reading_of configs log a) [ None ↦ false | Some 
 abbrev pub writes : List Config → List Entry → Act → Queue → Bool
 writes configs log (act.Start n) q = same_queue (queue.Router n) q
 writes configs log (act.Send bytes c n priority to) q = same_queue (queue.Router n) q
-writes configs log (act.SendChecked bytes check priority) q = same_queue (queue.Router (checking_node log check)) q
+writes configs log (act.SendChecked bytes check priority) q = in_mailbox_of (check_of log check) q
 writes configs log (act.Router n) q = in_router n q
 writes configs log (act.SendStep conn n) q = in_mailboxes n q || in_half (half_at log n conn) n conn q
 writes configs log (act.RecvStep conn n) q = in_held n conn q || in_channels n q

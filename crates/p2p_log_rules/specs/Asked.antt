@@ -25,15 +25,18 @@ abbrev pub capacity_for : Option Config → Rate → ℕ
 capacity_for None rate = 0
 capacity_for (Some c) rate = (c.max_peers_per_set * c.tracked_peer_sets) * rate.burst
 
-abbrev pub registers_at : List Config → ℕ → Act → List (ℕ × ℕ)
-registers_at configs n (act.Register c m rate) = cond (m == n) ((c, capacity_for (slice_get configs n) rate) ∷ []) []
-registers_at configs n _ = []
-
--- the channels that were asked for at a node, in order, each with its capacity
-unfoldable pub registered : List Config → List Event → ℕ → List (ℕ × ℕ)
-registered configs events n = flat_map (λ v. registers_at configs n v.act) events
-
 -- the channel that an act registers at a node, with its rate
 abbrev pub rates_by : ℕ → Act → List (ℕ × Rate)
 rates_by n (act.Register c m rate) = cond (m == n) ((c, rate) ∷ []) []
 rates_by n _ = []
+
+-- a channel of a node with its capacity
+abbrev pub with_capacity : List Config → ℕ → ℕ × Rate → ℕ × ℕ
+with_capacity configs n c = (c.0, capacity_for (slice_get configs n) c.1)
+
+abbrev pub registers_at : List Config → ℕ → Act → List (ℕ × ℕ)
+registers_at configs n a = map (with_capacity configs n) (rates_by n a)
+
+-- the channels that were asked for at a node, in order, each with its capacity
+unfoldable pub registered : List Config → List Event → ℕ → List (ℕ × ℕ)
+registered configs events n = flat_map (λ v. registers_at configs n v.act) events

@@ -147,16 +147,16 @@ link_of None = 0
 link_of (Some name) = name
 
 -- by what it took, and by whether its node's spawner is full
-abbrev pub took_row : ℕ → Bool → Bool → ℕ → Attempt → ℕ × ℕ → Item → List Envelope → Row
-took_row n full private seed a name (item.Resolved addresses) left = resolved_row (resolved a.address private addresses seed a) n a.key name left
-took_row n full private seed a name item.Linked left = gone_on_row name
-took_row n full private seed a name (item.Finished true) left = ready_row n full a.key (link_of a.answer) name left
-took_row n full private seed a name _ left = given_up_row n a.key (name ∷ []) left
+abbrev pub attempt_took_row : ℕ → Bool → Bool → ℕ → Attempt → ℕ × ℕ → Item → List Envelope → Row
+attempt_took_row n full private seed a name (item.Resolved addresses) left = resolved_row (resolved a.address private addresses seed a) n a.key name left
+attempt_took_row n full private seed a name item.Linked left = gone_on_row name
+attempt_took_row n full private seed a name (item.Finished true) left = ready_row n full a.key (link_of a.answer) name left
+attempt_took_row n full private seed a name _ left = given_up_row n a.key (name ∷ []) left
 
 -- the oldest item, or else its deadline
 abbrev pub attempt_turn : ℕ → ℕ → ℕ → Bool → Bool → Attempt → List Envelope → Row
 attempt_turn n at seed full private a [] = cond (nat_le a.deadline at) (given_up_row n a.key [] []) (only reply.Idle)
-attempt_turn n at seed full private a (x ∷ xs) = took_row n full private seed a (name_of x) x.item xs
+attempt_turn n at seed full private a (x ∷ xs) = attempt_took_row n full private seed a (name_of x) x.item xs
 
 abbrev pub attempt_by : Option Attempt → ℕ → ℕ → ℕ → Bool → Bool → List Envelope → Row
 attempt_by None n at seed full private waiting = only reply.Gone
@@ -168,12 +168,12 @@ attempt_row configs log e n at seed =
 
 -- ---- what it is told
 
-abbrev pub told_row : ℕ → ℕ → Item → Row
-told_row e n i = record { reply = reply.Ok; takes = []; puts = (queue.Attempt n e, i) ∷ []; ends = [] }
+abbrev pub attempt_told_row : ℕ → ℕ → Item → Row
+attempt_told_row e n i = record { reply = reply.Ok; takes = []; puts = (queue.Attempt n e, i) ∷ []; ends = [] }
 
 -- a name is looked up once
 abbrev pub resolve_by : Ingress → Bool → ℕ → ℕ → List SocketAddr → Row
-resolve_by (ingress.Dns host port) false e n addresses = told_row e n (item.Resolved addresses)
+resolve_by (ingress.Dns host port) false e n addresses = attempt_told_row e n (item.Resolved addresses)
 resolve_by _ _ e n addresses = only reply.Gone
 
 abbrev pub resolve_row : List Config → List Entry → List SocketAddr → ℕ → ℕ → Row
@@ -186,19 +186,19 @@ link_item true = item.Linked
 link_item false = item.Refused
 
 -- a dial is answered once there is an address, and once
-abbrev pub answered_row : Option SocketAddr → Bool → Bool → ℕ → ℕ → Row
-answered_row None answered links e n = only reply.Pending
-answered_row (Some s) true links e n = only reply.Gone
-answered_row (Some s) false links e n = told_row e n (link_item links)
+abbrev pub dial_answered_row : Option SocketAddr → Bool → Bool → ℕ → ℕ → Row
+dial_answered_row None answered links e n = only reply.Pending
+dial_answered_row (Some s) true links e n = only reply.Gone
+dial_answered_row (Some s) false links e n = attempt_told_row e n (link_item links)
 
 abbrev pub refuse_row : List Config → List Entry → ℕ → ℕ → Row
-refuse_row configs log e n = elim (attempts_of configs log n e) [ None ↦ only reply.Gone | Some a ↦ answered_row a.address (is_some a.answer) false e n ]
+refuse_row configs log e n = elim (attempts_of configs log n e) [ None ↦ only reply.Gone | Some a ↦ dial_answered_row a.address (is_some a.answer) false e n ]
 
 -- and where the other node runs, its listener is told of this arrival
 abbrev pub connected_row : Option SocketAddr → Bool → Bool → ℕ → ℕ → ℕ → Item → Row
 connected_row (Some s) false true e n to arrival =
     record { reply = reply.Ok; takes = []; puts = (queue.Attempt n e, item.Linked) ∷ (queue.Arrivals to, arrival) ∷ []; ends = [] }
-connected_row address answered runs e n to arrival = answered_row address answered runs e n
+connected_row address answered runs e n to arrival = dial_answered_row address answered runs e n
 
 -- a link of this event's name, by which the node's key comes from an address
 abbrev pub connect_row : List Config → List Entry → ℕ → SocketAddr → ℕ → ℕ → Row

@@ -6,14 +6,10 @@ use Rattle.p2p_log.specs.declared.queue.Queue.TheVariants as queue
 use Rattle.p2p_log.specs.declared.end.Cause.{Cause}
 use Rattle.p2p_log.specs.declared.end.Cause.TheVariants as cause
 use Rattle.p2p_log.specs.declared.entry.Entry.{Entry}
-use Rattle.p2p_log.specs.declared.entry.Reply.{Reply}
 use Rattle.p2p_log.specs.declared.entry.Reply.TheVariants as reply
-use Rattle.p2p_log.specs.declared.event.Act.{Act}
-use Rattle.p2p_log.specs.declared.event.Act.TheVariants as act
 use Rattle.p2p_log.specs.Drained.{all_end}
 use Rattle.p2p_log.specs.Lines.{line}
 use Rattle.p2p_log_rules.specs.declared.row.Row.{Row}
-use Rattle.p2p_log_rules.specs.Connections.{is_done}
 use Rattle.p2p_log_rules.specs.Facts.{channels, capacity_in}
 use Rattle.p2p_log_rules.specs.Rows.{only}
 use Rattle.p2p_log_rules.specs.Tellings.{Telling}
@@ -29,14 +25,6 @@ drops_reader n c _ = false
 -- whether the reader of a channel of a node was dropped
 unfoldable pub is_closed : List Entry → ℕ → ℕ → Bool
 is_closed log n c = list_any (drops_reader n c) (told log)
-
--- whether an act with this reply drops it
-abbrev pub closed_by : ℕ → ℕ → Act → Reply → Bool
-closed_by n c (act.Close d m) r = ((m == n) && (d == c)) && is_done r
-closed_by n c _ r = false
-
-abbrev pub closes : ℕ → ℕ → Entry → Bool
-closes n c e = closed_by n c e.event.act e.reply
 
 -- a channel has a reader from its registration until that is dropped
 abbrev pub reader_of : Option ℕ → Bool → Bool

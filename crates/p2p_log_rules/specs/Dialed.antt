@@ -2,7 +2,6 @@
 use Rattle.std.specs.Prelude.{ℕ, List, Option}
 use Rattle.p2p_log.specs.declared.entry.Entry.{Entry}
 use Rattle.p2p_log_rules.specs.Halves.{dialer_in}
-pub use Rattle.p2p_log_rules.specs.LinkEntries.{dialed_by}
 use Rattle.p2p_log_rules.specs.Told.{told}
 
 -- the node that dialed the link of this name

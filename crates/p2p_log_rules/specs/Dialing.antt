@@ -141,11 +141,11 @@ abbrev pub dials_row : ℕ → List (ℕ × ℕ) → List Key → Row
 dials_row n names peers = record { reply = reply.Ok; takes = names; puts = dial_puts n (last_key peers); ends = [] }
 
 -- an answer is taken: a grant begins an attempt, and after any other it asks for the next key
-abbrev pub answered_row : ℕ → ℕ → Dials → ℕ × ℕ → Item → Row
-answered_row n seed d name (item.Dialable next peers) = dials_row n (name ∷ []) (in_drawn_order seed peers)
-answered_row n seed d name (item.Dial None) = dials_row n (name ∷ []) d.peers
-answered_row n seed d name (item.Dial (Some grant)) = record { reply = reply.Ok; takes = name ∷ []; puts = []; ends = [] }
-answered_row n seed d name _ = only reply.Idle
+abbrev pub answer_taken_row : ℕ → ℕ → Dials → ℕ × ℕ → Item → Row
+answer_taken_row n seed d name (item.Dialable next peers) = dials_row n (name ∷ []) (in_drawn_order seed peers)
+answer_taken_row n seed d name (item.Dial None) = dials_row n (name ∷ []) d.peers
+answer_taken_row n seed d name (item.Dial (Some grant)) = record { reply = reply.Ok; takes = name ∷ []; puts = []; ends = [] }
+answer_taken_row n seed d name _ = only reply.Idle
 
 -- its deadline has come: it dials the next key, and without one asks whom to dial
 abbrev pub due_row : ℕ → List Key → Row
@@ -155,7 +155,7 @@ due_row n (k ∷ ks) = dials_row n [] (k ∷ ks)
 -- the oldest answer, or else the deadline where it waits for no answer
 abbrev pub dialer_turn : ℕ → ℕ → ℕ → Dials → List Envelope → Row
 dialer_turn n at seed d [] = cond (not d.is_asking && nat_le d.deadline at) (due_row n d.peers) (only reply.Idle)
-dialer_turn n at seed d (x ∷ xs) = answered_row n seed d (name_of x) x.item
+dialer_turn n at seed d (x ∷ xs) = answer_taken_row n seed d (name_of x) x.item
 
 abbrev pub dialer_row : List Config → List Entry → ℕ → ℕ → ℕ → Row
 dialer_row configs log n at seed = cond (is_up log n) (dialer_turn n at seed (dials_of configs log n) (line log (queue.Dialer n))) (only reply.Gone)

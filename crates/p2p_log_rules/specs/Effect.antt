@@ -20,7 +20,6 @@ use Rattle.p2p_log.specs.declared.entry.Ended.TheVariants as ended
 use Rattle.p2p_log.specs.declared.entry.Entry.{Entry}
 use Rattle.p2p_log.specs.declared.entry.Reply.{Reply}
 use Rattle.p2p_log.specs.declared.entry.Reply.TheVariants as reply
-use Rattle.p2p_log_rules.specs.declared.row.Checked.{Checked}
 use Rattle.p2p_log_rules.specs.declared.row.Half.{Half}
 use Rattle.p2p_log_rules.specs.declared.row.Row.{Row}
 use Rattle.p2p_log.specs.declared.event.Act.{Act}
@@ -44,7 +43,7 @@ use Rattle.p2p_log_rules.specs.Metering.{pings, messages, may_pass}
 use Rattle.p2p_log_rules.specs.Pings.{ping_frame, ping_is_due}
 pub use Rattle.p2p_log_rules.specs.Rows.{only, takes_oldest, mailbox_size_at, overwritten, ring_ends}
 use Rattle.p2p_log_rules.specs.Admitting.{offered, keys_admitted, retry_moment}
-use Rattle.p2p_log_rules.specs.Checking.{checking_node, checked_at}
+use Rattle.p2p_log_rules.specs.Checking.{Check, check_of}
 use Rattle.p2p_log_rules.specs.Closing.{is_closed, has_reader, close_row, refused_by}
 use Rattle.p2p_log_rules.specs.Attempting.{resolve_row, refuse_row, connect_row}
 use Rattle.p2p_log_rules.specs.Dialing.{dialer_row}
@@ -128,17 +127,16 @@ check_row configs log c n to at =
           (checked_row (offered log n c to) (keys_admitted log n c at (offered log n c to)) (retry_moment log n c at (offered log n c to)))
     ]
 
--- send_checked: to the keys that a check of a node admitted, on its channel, where no message was sent to them yet
-abbrev pub spent_row : List Config → List Entry → List ℕ → ℕ → Bool → Option Checked → Row
-spent_row configs log bytes n priority None = only reply.Gone
-spent_row configs log bytes n priority (Some checked) =
+-- send_checked: to the keys that a check admitted, at its node and on its channel, where no message was sent to them yet
+abbrev pub spent_row : List Config → List Entry → List ℕ → Bool → Option Check → Row
+spent_row configs log bytes priority None = only reply.Gone
+spent_row configs log bytes priority (Some c) =
     send_to_row configs log
-    (reply.Outcome (Outcome feedback.Ok) n checked.channel checked.keys) (reply.Outcome Rejected n checked.channel checked.keys)
-    bytes checked.channel n priority checked.keys
+    (reply.Outcome (Outcome feedback.Ok) c.node c.channel c.keys) (reply.Outcome Rejected c.node c.channel c.keys)
+    bytes c.channel c.node priority c.keys
 
 abbrev pub send_checked_row : List Config → List Entry → List ℕ → ℕ → Bool → Row
-send_checked_row configs log bytes check priority =
-    let n = checking_node log check in spent_row configs log bytes n priority (checked_at log n check)
+send_checked_row configs log bytes check priority = spent_row configs log bytes priority (check_of log check)
 
 -- recv: the oldest message of the channel, while that has a reader
 abbrev pub read_row : ℕ × ℕ → Item → Row
@@ -201,6 +199,20 @@ spread size items n priority ended routes send p frame (k ∷ ks) so_far =
 abbrev pub row_of_spread : ℕ × ℕ → Spread → Row
 row_of_spread name s = record { reply = reply.Ok; takes = name ∷ []; puts = s.puts; ends = s.ends }
 
+-- its answer to a connection, unless that has ended
+abbrev pub answer_puts : Bool → ℕ → ℕ → List (Queue × Item)
+answer_puts true n conn = []
+answer_puts false n conn = (queue.Ready n conn, item.Answer) ∷ []
+
+-- it takes that a connection is ready, which has ended or not: it may run, and each subscriber hears of it
+abbrev pub ready_row : List Entry → ℕ → ℕ × ℕ → ℕ → Key → Bool → List Envelope → Row
+ready_row log n name conn key ended items = record {
+  reply = reply.Ok;
+  takes = name ∷ [];
+  puts = answer_puts ended n conn ++ map (peers_put n (keys_in (with_route (routes log n) (item.Ready conn key)))) (subscribers log n);
+  ends = peers_ends items n (subscribers log n);
+}
+
 -- the item that the router took, by its kind, given what stands in queues once it is taken
 abbrev pub route_row : List Config → List Entry → ℕ → ℕ × ℕ → Item → List Envelope → Row
 -- a subscription: the peers that are connected now
@@ -211,15 +223,8 @@ route_row configs log n name (item.Subscribe c) items =
       puts = map (peers_put n (keys_in (routes log n))) (c ∷ []);
       ends = peers_ends items n (c ∷ []);
     }
--- a connection: it may run, and each subscriber hears of it
-route_row configs log n name (item.Ready conn key) items =
-    record {
-      reply = reply.Ok;
-      takes = name ∷ [];
-      puts = (queue.Ready n conn, item.Answer)
-          ∷ map (peers_put n (keys_in (with_route (routes log n) (item.Ready conn key)))) (subscribers log n);
-      ends = peers_ends items n (subscribers log n);
-    }
+-- a connection
+route_row configs log n name (item.Ready conn key) items = ready_row log n name conn key (is_ended log n conn) items
 -- the end of a connection: each subscriber hears that its peer is gone
 route_row configs log n name (item.Release key) items =
     record {
@@ -272,15 +277,15 @@ written_row log n conn half true due xs = end_row log n conn half ended.SendFail
 written_row log n conn half false due xs = write_row (queue.Link half.link half.writes) due xs
 
 -- what it is told comes before its messages, where a batch has room beside its ping: that it ends
-abbrev pub told_row : List Entry → ℕ → ℕ → Half → List Envelope → Bool → Row → Row
-told_row log n conn half (x ∷ _) true r = end_row log n conn half ended.Killed cause.ConnectionEnded (x ∷ [])
-told_row log n conn half _ room r = r
+abbrev pub told_to_end_row : List Entry → ℕ → ℕ → Half → List Envelope → Bool → Row → Row
+told_to_end_row log n conn half (x ∷ _) true r = end_row log n conn half ended.Killed cause.ConnectionEnded (x ∷ [])
+told_to_end_row log n conn half _ room r = r
 
 -- a step of a half that runs, by whether its ping is due
 abbrev pub running_row : List Config → List Entry → ℕ → ℕ → Half → Bool → Row
 running_row configs log n conn half due =
     let most = beside_ping due (batch_size_at configs n) in
-    told_row log n conn half (line log (queue.Control n conn)) (nat_lt 0 most)
+    told_to_end_row log n conn half (line log (queue.Control n conn)) (nat_lt 0 most)
     (written_row log n conn half (is_dropped log half.link (other_side half.writes)) due (batch log n conn most))
 
 -- it begins: the tracker and the router are told whom it is with

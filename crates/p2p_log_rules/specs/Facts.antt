@@ -11,9 +11,7 @@ use Rattle.p2p_log.specs.declared.item.Item.TheVariants as item
 use Rattle.p2p_log.specs.declared.entry.Entry.{Entry}
 use Rattle.p2p_log.specs.declared.event.Event.{Event}
 use Rattle.p2p_log.specs.declared.event.Rate.{Rate}
-use Rattle.p2p_log.specs.declared.event.Act.{Act}
-use Rattle.p2p_log.specs.declared.event.Act.TheVariants as act
-pub use Rattle.p2p_log_rules.specs.Asked.{events_of, starts, capacity_for, registers_at, rates_by}
+pub use Rattle.p2p_log_rules.specs.Asked.{events_of, starts, capacity_for, with_capacity, registers_at, rates_by}
 unfoldable pub use Rattle.p2p_log_rules.specs.Asked.{has_started, registered}
 pub use Rattle.p2p_log_rules.specs.Taking.{item_put, item_in, item_named, taken_in, with_named, with_begun, history}
 unfoldable pub use Rattle.p2p_log_rules.specs.Taking.{taken, taken_at, history_from, state_from}
@@ -56,7 +54,7 @@ rates log n = rates_in (told log) n
 
 -- and each with its capacity
 unfoldable pub channels : List Config → List Entry → ℕ → List (ℕ × ℕ)
-channels configs log n = map (λ c. (c.0, capacity_for (slice_get configs n) c.1)) (rates log n)
+channels configs log n = map (with_capacity configs n) (rates log n)
 
 -- the capacity of a channel, where it is registered
 abbrev pub capacity_in : List (ℕ × ℕ) → ℕ → Option ℕ
@@ -67,14 +65,6 @@ sum_capacities [] = 0
 sum_capacities (c ∷ cs) = c.1 + sum_capacities cs
 
 -- ---- the router
-
-abbrev pub steps_router : ℕ → Act → Bool
-steps_router n (act.Router m) = m == n
-steps_router n _ = false
-
--- the items that a node's router takes by an entry
-abbrev pub routed_by : ℕ → List Entry → Entry → List Item
-routed_by n before e = cond (steps_router n e.event.act) (taken before e) []
 
 abbrev pub wants_lists : ℕ → Telling → List ℕ
 wants_lists n (telling.lists_wanted m c) = cond (m == n) (c ∷ []) []

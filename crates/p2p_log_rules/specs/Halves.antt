@@ -13,13 +13,13 @@ pub record Spawned : Type 0 where
   pub key : Key
   pub link : ℕ
 
-abbrev pub makes : ℕ → ℕ → Telling → Option (Option Spawned)
-makes n k (telling.connection_made m j key link) = cond ((m == n) && (k == j)) (Some (Some (record { key = key; link = link }))) None
-makes n k _ = None
+abbrev pub makes_connection : ℕ → ℕ → Telling → Option (Option Spawned)
+makes_connection n k (telling.connection_made m j key link) = cond ((m == n) && (k == j)) (Some (Some (record { key = key; link = link }))) None
+makes_connection n k _ = None
 
 -- the connection of this name
 abbrev pub connection_in : List Telling → ℕ → ℕ → Option Spawned
-connection_in ts n k = last_or None (makes n k) ts
+connection_in ts n k = last_or None (makes_connection n k) ts
 
 -- the node that dialed the link of this name
 abbrev pub dials_link : ℕ → Telling → Option (Option ℕ)

@@ -3,7 +3,6 @@ use Rattle.std.specs.Prelude.{ℕ, ◌==◌, ◌&&◌, Bool, false, cond, List, 
 use Rattle.std.specs.List.{list_any}
 use Rattle.p2p_log.specs.declared.item.Item.{Item}
 use Rattle.p2p_log.specs.declared.entry.Entry.{Entry}
-pub use Rattle.p2p_log_rules.specs.HandshakeEntries.{steps_listener, steps_handshake, with_admitted, without_name, unless_ended, acted_handshakes, handshakes_by, took_by}
 pub use Rattle.p2p_log_rules.specs.HandshakeSteps.{ends_handshake, takes_acceptance, takes_exchange, source_of, source_at, Peer, peer_of, peer_at}
 use Rattle.p2p_log_rules.specs.Standing.{standing}
 use Rattle.p2p_log_rules.specs.Tellings.{Telling, any_or}

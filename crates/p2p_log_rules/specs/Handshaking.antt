@@ -30,11 +30,11 @@ exchanged_row n handshake key name =
 
 -- by what it took, and by whether its node's spawner is full: where its peer may connect, it goes on; where keys were exchanged, it asks for
 -- its peer; and where that is reserved, a connection is to be made
-abbrev pub took_row : ℕ → Bool → ℕ → Peer → ℕ × ℕ → Item → List Envelope → Row
-took_row n full handshake peer name (item.Acceptable true) left = gone_on_row name
-took_row n full handshake peer name (item.Finished true) left = exchanged_row n handshake peer.key name
-took_row n full handshake peer name (item.Listen (Some key)) left = ready_row n full key peer.link name left
-took_row n full handshake peer name _ left = ended_row (name ∷ []) left
+abbrev pub handshake_took_row : ℕ → Bool → ℕ → Peer → ℕ × ℕ → Item → List Envelope → Row
+handshake_took_row n full handshake peer name (item.Acceptable true) left = gone_on_row name
+handshake_took_row n full handshake peer name (item.Finished true) left = exchanged_row n handshake peer.key name
+handshake_took_row n full handshake peer name (item.Listen (Some key)) left = ready_row n full key peer.link name left
+handshake_took_row n full handshake peer name _ left = ended_row (name ∷ []) left
 
 -- whether its deadline has come, which stands still once keys were exchanged
 abbrev pub is_due : ℕ → ℕ → Bool → Bool
@@ -43,7 +43,7 @@ is_due deadline at finished = not finished && nat_le deadline at
 -- the oldest item, or else its deadline
 abbrev pub handshake_turn : ℕ → Bool → Bool → ℕ → Peer → List Envelope → Row
 handshake_turn n full due handshake peer [] = cond due (ended_row [] []) (only reply.Idle)
-handshake_turn n full due handshake peer (x ∷ xs) = took_row n full handshake peer (name_of x) x.item xs
+handshake_turn n full due handshake peer (x ∷ xs) = handshake_took_row n full handshake peer (name_of x) x.item xs
 
 abbrev pub handshake_row : List Config → List Entry → ℕ → ℕ → ℕ → Row
 handshake_row configs log name n at =

@@ -3,7 +3,6 @@ pub mod Asked
 pub mod Attempting
 pub mod Checking
 pub mod Closing
-pub mod ConnectionEntries
 pub mod Connections
 pub mod Dialed
 pub mod Dialing
@@ -16,14 +15,12 @@ pub mod Frames
 pub mod Full
 pub mod HalfSteps
 pub mod Halves
-pub mod HandshakeEntries
 pub mod HandshakeSteps
 pub mod Handshakes
 pub mod Handshaking
 pub mod Holders
 pub mod Judged
 pub mod Lawful
-pub mod LinkEntries
 pub mod Links
 pub mod Listening
 pub mod Metering

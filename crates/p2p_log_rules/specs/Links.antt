@@ -16,7 +16,6 @@ use Rattle.p2p_log_rules.specs.declared.row.ListeningEnd.TheVariants as listenin
 use Rattle.p2p_log_rules.specs.Attempting.{Attempt, attempts_of}
 use Rattle.p2p_log_rules.specs.Facts.{key_at}
 use Rattle.p2p_log_rules.specs.Handshakes.{is_accepted}
-pub use Rattle.p2p_log_rules.specs.LinkEntries.{with_opened, without_finished, acted_openings, openings_by, admitted_end, listened, arrived, unless_dropped, acted_ends, ends_by}
 use Rattle.p2p_log_rules.specs.Rows.{only}
 use Rattle.p2p_log_rules.specs.Tellings.{Telling, last_or}
 use Rattle.p2p_log_rules.specs.Tellings as telling

@@ -4,7 +4,7 @@ use Rattle.std.specs.BTreeMap.{is_at}
 use Rattle.p2p_base.specs.declared.key.Key.{Key}
 use Rattle.p2p_address.specs.Addresses.{subnet_of}
 use Rattle.p2p_address.specs.declared.ip.IpAddr.{IpAddr}
-use Rattle.p2p_tracker_calls.specs.Gates.{GateRules, Known, reply_to, known_after}
+use Rattle.p2p_tracker_calls.specs.Gates.{GateRules, Known, reply_to}
 use Rattle.p2p_tracker_calls.specs.Heard.{ip_cmp}
 use Rattle.p2p_tracker_calls.specs.declared.gates.Reply.{Reply as GatesReply}
 use Rattle.p2p_tracker_calls.specs.declared.gates.Reply.TheVariants as gates
@@ -18,8 +18,8 @@ use Rattle.p2p_log.specs.declared.entry.Entry.{Entry}
 use Rattle.p2p_log.specs.declared.entry.Reply.TheVariants as reply
 use Rattle.p2p_log.specs.Lines.{name_of, line}
 use Rattle.p2p_log_rules.specs.declared.row.Row.{Row}
-use Rattle.p2p_log_rules.specs.Facts.{is_up, taken}
-use Rattle.p2p_log_rules.specs.Handshakes.{steps_listener, handshakes_of}
+use Rattle.p2p_log_rules.specs.Facts.{is_up}
+use Rattle.p2p_log_rules.specs.Handshakes.{handshakes_of}
 use Rattle.p2p_log_rules.specs.Judged.{is_counted, passed_address, passed_subnet}
 pub use Rattle.p2p_log_rules.specs.Quotas.{quota_of}
 use Rattle.p2p_log_rules.specs.Rows.{only}
@@ -87,19 +87,6 @@ known_in ts n = record {
 unfoldable pub known_of : List Config → List Entry → ℕ → Known
 known_of configs log n = known_in (told log) n
 
--- ---- what an entry makes of it
-
--- once it took this at a moment: addresses, or an arrival, which is held against the quotas where it comes to them
-abbrev pub took_known : GateRules → ℕ → List Item → Known → Known
-took_known rules at (item.Addresses addresses ∷ items) k = record k { addresses = addresses }
-took_known rules at (item.Arrival from key link ∷ items) k = known_after rules k from.ip at
-took_known rules at _ k = k
-
--- after an entry, given those before it
-abbrev pub known_by : List Config → ℕ → List Entry → Entry → Known → Known
-known_by configs n before e k =
-    cond (steps_listener n e.event.act) (took_known (gate_rules_at configs n) e.event.at (taken before e) k) k
-
 -- ---- its step
 
 -- whether its peer may connect is asked for a handshake that begins, which has the name of this entry
@@ -108,13 +95,13 @@ gates_puts n name key gates.Admitted = (queue.Tracker n, item.AskAcceptable name
 gates_puts n name key _ = []
 
 -- an arrival of this key was taken, which is told this
-abbrev pub told_row : ℕ → ℕ → ℕ × ℕ → Key → GatesReply → Row
-told_row n entry name key told = record { reply = reply.Gates told; takes = name ∷ []; puts = gates_puts n entry key told; ends = [] }
+abbrev pub arrival_told_row : ℕ → ℕ → ℕ × ℕ → Key → GatesReply → Row
+arrival_told_row n entry name key told = record { reply = reply.Gates told; takes = name ∷ []; puts = gates_puts n entry key told; ends = [] }
 
 -- an arrival is taken through the gates
 abbrev pub arrived_row : GateRules → Known → Bool → ℕ → ℕ → ℕ → ℕ × ℕ → Item → Row
 arrived_row rules known place n entry at name (item.Arrival from key link) =
-    told_row n entry name key (reply_to rules known place from.ip at)
+    arrival_told_row n entry name key (reply_to rules known place from.ip at)
 arrived_row rules known place n entry at name _ = only reply.Idle
 
 abbrev pub arrival_turn : GateRules → Known → Bool → ℕ → ℕ → ℕ → List Envelope → Row

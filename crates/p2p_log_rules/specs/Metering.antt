@@ -11,14 +11,13 @@ use Rattle.p2p_log.specs.declared.item.Item.{Item}
 use Rattle.p2p_log.specs.declared.item.Item.TheVariants as item
 use Rattle.p2p_log.specs.declared.entry.Entry.{Entry}
 use Rattle.p2p_log.specs.declared.event.Rate.{Rate}
-use Rattle.p2p_log_rules.specs.Connections.{steps_receiver, is_end}
-use Rattle.p2p_log_rules.specs.Facts.{rates, rate_in, taken}
+use Rattle.p2p_log_rules.specs.Facts.{rates, rate_in}
 pub use Rattle.p2p_log_rules.specs.HalfSteps.{holds}
 use Rattle.p2p_log_rules.specs.Pings.{ping_frequency_at}
 use Rattle.p2p_log_rules.specs.Quotas.{quota_of}
 use Rattle.p2p_log_rules.specs.Tellings.{Telling}
 use Rattle.p2p_log_rules.specs.Tellings as telling
-use Rattle.p2p_log_rules.specs.Told.{told}
+use Rattle.p2p_log_rules.specs.Told.{tells, told}
 
 -- what a quota of a connection counts: pings, or the messages of a channel
 pub data Metered : Type 0 where
@@ -56,15 +55,9 @@ passes limit n conn what _ = []
 unfoldable pub admitted : List Config → List Entry → ℕ → ℕ → Metered → List ℕ
 admitted configs log n conn what = flat_map (passes (limit_at configs n) n conn what) (told log)
 
--- whether a step that took these and put these admitted one of them
-abbrev pub admits_one : ℕ → Metered → List Item → List (Queue × Item) → Bool
-admits_one limit what [] puts = false
-admits_one limit what (i ∷ items) puts = is_of what (metered_in limit i) && not (holds puts)
-
--- what an entry adds to them: a step that ends its connection admits nothing
+-- what an entry adds to them, given those before it
 abbrev pub admitted_by : ℕ → ℕ → ℕ → Metered → List Entry → Entry → List ℕ
-admitted_by limit n conn what before e =
-    cond (steps_receiver n conn e.event.act && not (is_end e.reply) && admits_one limit what (taken before e) e.puts) (e.event.at ∷ []) []
+admitted_by limit n conn what before e = flat_map (passes limit n conn what) (tells (told before) before e)
 
 -- ---- what is admitted
 

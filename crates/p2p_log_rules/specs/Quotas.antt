@@ -2,18 +2,13 @@
 use Rattle.std.specs.Prelude.{ℕ, max, ◌==◌, ◌&&◌, cond, List, [], ◌∷◌, flat_map, Option, Some, None}
 use Rattle.std.specs.BTreeMap.{is_at}
 use Rattle.std.specs.Map.{lookup}
-use Rattle.std.specs.Ordering.{nat_cmp}
-use Rattle.std.specs.declared.cmp.Ordering.{Ordering}
 use Rattle.p2p_base.specs.declared.key.Key.{Key}
 use Rattle.p2p_runtime.specs.QuotaLaw.{Rate as Quota, admits, retry}
 use Rattle.p2p_runtime.specs.QuotaKeys.{with_admission}
 use Rattle.p2p_log.specs.declared.event.Rate.{Rate}
+pub use Rattle.p2p_log.specs.Keys.{key_cmp}
 use Rattle.p2p_log_rules.specs.Tellings.{Telling}
 use Rattle.p2p_log_rules.specs.Tellings as telling
-
--- keys in their order
-abbrev pub key_cmp : Key → Key → Ordering
-key_cmp a b = nat_cmp a.0 b.0
 
 -- ---- rates
 

@@ -22,9 +22,9 @@ abbrev pub given : Queue → List ℕ → List ℕ
 given _ bytes = bytes
 
 -- what a reader of this queue is told of an item there
-abbrev pub told : Queue → Item → Reply
-told q (item.Message bytes copy from) = reply.Message (given q bytes) from
-told q _ = reply.Pending
+abbrev pub told_of_reading : Queue → Item → Reply
+told_of_reading q (item.Message bytes copy from) = reply.Message (given q bytes) from
+told_of_reading q _ = reply.Pending
 
 -- whether a reply tells of an item that was read
 abbrev pub is_read : Reply → Bool

@@ -11,9 +11,9 @@ use Rattle.p2p_log.specs.declared.entry.Reply.TheVariants as reply
 use Rattle.p2p_log.specs.Lines.{name_of, line, live, stays}
 use Rattle.p2p_log_rules.specs.declared.row.Half.{Half}
 use Rattle.p2p_log_rules.specs.declared.row.Row.{Row}
-use Rattle.p2p_log_rules.specs.Attempting.{Attempt, dial_rules_at, attempts_of, given_up_row, took_row}
+use Rattle.p2p_log_rules.specs.Attempting.{Attempt, dial_rules_at, attempts_of, given_up_row, attempt_took_row}
 use Rattle.p2p_log_rules.specs.Connections.{live_half, is_ended}
-use Rattle.p2p_log_rules.specs.Dialing.{Dials, dials_of, due_row, answered_row}
+use Rattle.p2p_log_rules.specs.Dialing.{Dials, dials_of, due_row, answer_taken_row}
 use Rattle.p2p_log_rules.specs.Dropping.{other_side, is_dropped}
 use Rattle.p2p_log_rules.specs.Effect.{route_row, batch_size_at, batch, written_row, begin_row, frame_row, retry_row}
 use Rattle.p2p_log_rules.specs.Effect as effect
@@ -25,23 +25,19 @@ use Rattle.p2p_log_rules.specs.Handshaking as handshaking
 use Rattle.p2p_log_rules.specs.Listening.{gate_rules_at, known_of, has_place, arrived_row}
 use Rattle.p2p_log_rules.specs.Rows.{only, is_spawner_full}
 use Rattle.p2p_log_rules.specs.TrackerPuts.{unblocked_puts, item_puts, heeded}
-use Rattle.p2p_log_rules.specs.TrackerRows.{told_row}
+use Rattle.p2p_log_rules.specs.TrackerRows.{tracker_told_row, taken_row}
 use Rattle.p2p_log_rules.specs.Tracking.{rules_at, calls_of, update_subscriptions, blocked_subscriptions}
-
--- an item is taken, and nothing more comes of it in this step
-abbrev pub taken_row : Envelope → Row
-taken_row x = record { reply = reply.Ok; takes = name_of x ∷ []; puts = []; ends = [] }
 
 -- ---- each actor: what it makes of each of its inputs
 
 -- a tracker: its mailbox; else blocks have ended
 abbrev pub tracker_serves : List Config → List Entry → ℕ → ℕ → Input → Row
 tracker_serves configs log n at (takes q x rest) =
-    told_row log (name_of x ∷ [])
+    tracker_told_row log (name_of x ∷ [])
     (heeded (is_ended log n)
     (item_puts (rules_at configs n) n at (update_subscriptions log n) (blocked_subscriptions log n) (calls_of configs log n) log x.item))
 tracker_serves configs log n at _ =
-    told_row log []
+    tracker_told_row log []
     (unblocked_puts (rules_at configs n) n at (update_subscriptions log n) (blocked_subscriptions log n) (calls_of configs log n) (call.UnblockExpired at))
 
 abbrev pub router_serves : List Config → List Entry → ℕ → Input → Row
@@ -49,43 +45,43 @@ router_serves configs log n (takes q x rest) = route_row configs log n (name_of 
 router_serves configs log n _ = only reply.Idle
 
 abbrev pub spawner_serves : Input → Row
-spawner_serves (takes q x rest) = taken_row x
+spawner_serves (takes q x rest) = taken_row reply.Ok x
 spawner_serves _ = only reply.Idle
 
 -- a dialer: an answer; else its deadline has come
 abbrev pub dialer_serves : ℕ → ℕ → Dials → Input → Row
-dialer_serves n seed d (takes q x rest) = answered_row n seed d (name_of x) x.item
+dialer_serves n seed d (takes q x rest) = answer_taken_row n seed d (name_of x) x.item
 dialer_serves n seed d _ = due_row n d.peers
 
 -- a listener: an update, or an arrival
 abbrev pub listener_serves : List Config → List Entry → ℕ → ℕ → Input → Row
-listener_serves configs log n at (takes (queue.Update m) x rest) = taken_row x
+listener_serves configs log n at (takes (queue.Update m) x rest) = taken_row reply.Ok x
 listener_serves configs log n at (takes q x rest) =
     arrived_row (gate_rules_at configs n) (known_of configs log n) (has_place configs log n) n (length log) at (name_of x) x.item
 listener_serves configs log n at _ = only reply.Idle
 
 -- an attempt: what it takes; else its deadline has come
 abbrev pub attempt_serves : ℕ → Bool → Bool → ℕ → Option Attempt → Input → Row
-attempt_serves n full private seed (Some a) (takes q x rest) = took_row n full private seed a (name_of x) x.item rest
+attempt_serves n full private seed (Some a) (takes q x rest) = attempt_took_row n full private seed a (name_of x) x.item rest
 attempt_serves n full private seed (Some a) _ = given_up_row n a.key [] []
 attempt_serves n full private seed None i = only reply.Gone
 
 -- and so a handshake
 abbrev pub handshake_serves : ℕ → Bool → ℕ → Peer → Input → Row
-handshake_serves n full name peer (takes q x rest) = handshaking.took_row n full name peer (name_of x) x.item rest
+handshake_serves n full name peer (takes q x rest) = handshaking.handshake_took_row n full name peer (name_of x) x.item rest
 handshake_serves n full name peer _ = ended_row [] []
 
 -- a sending half: it begins; it takes its router's answer, that it ends, or a batch; else a ping is due
 abbrev pub sender_serves : List Config → List Entry → ℕ → ℕ → Option Half → Input → Row
 sender_serves configs log n conn None i = only reply.Gone
 sender_serves configs log n conn (Some half) begins = begin_row n conn half.peer
-sender_serves configs log n conn (Some half) (takes (queue.Ready m e) x rest) = taken_row x
+sender_serves configs log n conn (Some half) (takes (queue.Ready m e) x rest) = taken_row reply.Ok x
 sender_serves configs log n conn (Some half) (takes (queue.Control m e) x rest) = end_row log n conn half ended.Killed cause.ConnectionEnded (x ∷ [])
 sender_serves configs log n conn (Some half) (takes q x rest) =
     written_row log n conn half (is_dropped log half.link (other_side half.writes)) false (batch log n conn (batch_size_at configs n))
 sender_serves configs log n conn (Some half) _ =
     let most = batch_size_at configs n - 1 in
-    effect.told_row log n conn half (line log (queue.Control n conn)) (nat_lt 0 most)
+    effect.told_to_end_row log n conn half (line log (queue.Control n conn)) (nat_lt 0 most)
     (written_row log n conn half (is_dropped log half.link (other_side half.writes)) true (batch log n conn most))
 
 -- a receiving half: what is held, or a frame; else none will come

@@ -57,8 +57,6 @@ pub data Telling : Type 0 where
   handshake_ended : (node handshake link : ℕ) → Telling
   -- the sending half of a connection did a step
   half_stepped : (node conn : ℕ) → Telling
-  -- it took its router's answer
-  answer_heard : (node conn : ℕ) → Telling
   -- a connection ended
   connection_ended : (node conn : ℕ) → Telling
   -- a node's tracker took at this moment that blocks had ended

@@ -17,7 +17,7 @@ use Rattle.p2p_log.specs.declared.event.Act.TheVariants as act
 use Rattle.p2p_log.specs.declared.event.Recipients.{Recipients}
 use Rattle.p2p_log.specs.Copies.{keys_of_recipients}
 use Rattle.p2p_log_rules.specs.declared.row.Half.{Half}
-use Rattle.p2p_log_rules.specs.HalfSteps.{puts_ping, holds}
+use Rattle.p2p_log_rules.specs.HalfSteps.{is_done, is_end, puts_ping, holds}
 use Rattle.p2p_log_rules.specs.Halves.{half_in}
 use Rattle.p2p_log_rules.specs.HandshakeSteps.{ends_handshake, peer_at}
 use Rattle.p2p_log_rules.specs.Puts.{gave_up, ends_attempt, broke_off, is_answer, turns_away, arrival_link}
@@ -71,8 +71,7 @@ when b ts = cond b ts []
 
 -- this, where something was done
 abbrev pub done_tells : Reply → List Telling → List Telling
-done_tells reply.Ok ts = ts
-done_tells r ts = []
+done_tells r ts = when (is_done r) ts
 
 -- the end of a link, where there is one
 abbrev pub dialing_dropped : Option ℕ → List Telling
@@ -87,10 +86,9 @@ abbrev pub half_dropped : Option Half → List Telling
 half_dropped None = []
 half_dropped (Some half) = telling.end_dropped half.link half.writes ∷ []
 
--- a half that ended its connection dropped the end to which it writes
-abbrev pub half_tells : Reply → Option Half → List Telling
-half_tells (reply.Ended why) half = half_dropped half
-half_tells r half = []
+-- that a half ended its connection, and dropped the end to which it writes
+abbrev pub over_tells : ℕ → ℕ → Reply → Option Half → List Telling
+over_tells n conn r half = when (is_end r) (telling.connection_ended n conn ∷ half_dropped half)
 
 -- an answer that a dialer took at a moment in an entry of this name and seed, which had asked at that moment whom to dial
 abbrev pub answer_tells : ℕ → ℕ → ℕ → ℕ → ℕ → List Item → List Telling
@@ -147,29 +145,24 @@ arrival_tells n handshake _ = []
 abbrev pub handshake_tells : ℕ → ℕ → ℕ → Bool → List Item → List Telling
 handshake_tells n h link over items = telling.handshake_took n h items ∷ when over (telling.handshake_ended n h link ∷ [])
 
--- that a sending half did a step, and that it took its router's answer
-abbrev pub sender_tells : ℕ → ℕ → Reply → List Item → List Telling
-sender_tells n conn r items = done_tells r (telling.half_stepped n conn ∷ []) ++ when (list_any is_answer items) (telling.answer_heard n conn ∷ [])
-
--- that a half ended its connection
-abbrev pub end_tells : ℕ → ℕ → Reply → List Telling
-end_tells n conn (reply.Ended why) = telling.connection_ended n conn ∷ []
-end_tells n conn r = []
-
 -- the connection that a spawner made of what it took, in an entry of this name
 abbrev pub spawn_tells : ℕ → ℕ → List Item → List Telling
 spawn_tells n name (item.Spawn key link ∷ items) = telling.connection_made n name key link ∷ []
 spawn_tells n name _ = []
 
--- that a sending half took its router's answer, and that it put a ping
-abbrev pub pinged_tells : ℕ → ℕ → ℕ → List Item → List (Queue × Item) → List Telling
-pinged_tells n conn at items puts = when (list_any is_answer items) (telling.connection_ran n conn at ∷ []) ++ when (puts_ping items puts) (telling.ping_put n conn at ∷ [])
+-- that a sending half did a step at a moment, and in it took its router's answer, and put a ping
+abbrev pub sender_tells : ℕ → ℕ → ℕ → List Item → List (Queue × Item) → List Telling
+sender_tells n conn at items puts =
+    telling.half_stepped n conn ∷ (when (list_any is_answer items) (telling.connection_ran n conn at ∷ []) ++ when (puts_ping items puts) (telling.ping_put n conn at ∷ []))
 
--- what a receiving half took and did not hold, unless it ended its connection
+-- what a receiving half took and did not hold
+abbrev pub received_tells : ℕ → ℕ → ℕ → List Item → List (Queue × Item) → List Telling
+received_tells n conn at [] puts = []
+received_tells n conn at (i ∷ items) puts = when (not (holds puts)) (telling.item_admitted n conn at i ∷ [])
+
+-- unless it ended its connection
 abbrev pub admitted_tells : ℕ → ℕ → ℕ → Reply → List Item → List (Queue × Item) → List Telling
-admitted_tells n conn at (reply.Ended why) items puts = []
-admitted_tells n conn at r [] puts = []
-admitted_tells n conn at r (i ∷ items) puts = when (not (holds puts)) (telling.item_admitted n conn at i ∷ [])
+admitted_tells n conn at r items puts = when (not (is_end r)) (received_tells n conn at items puts)
 
 -- what a check with this reply admitted, on its channel
 abbrev pub check_tells : ℕ → ℕ → ℕ → Reply → List Telling
@@ -200,8 +193,8 @@ module _ (ts : List Telling) (before : List Entry) (name at seed : ℕ) (r : Rep
   act_tells (act.Check c n to) = telling.sends_admitted n c at (admitted_in ts n c at to) ∷ check_tells n name c r
   act_tells (act.SendChecked bytes check priority) = telling.check_spent check ∷ []
   act_tells (act.Router n) = router_tells n items puts
-  act_tells (act.SendStep conn n) = (sender_tells n conn r items ++ (end_tells n conn r ++ half_tells r (half_in ts n conn))) ++ done_tells r (pinged_tells n conn at items puts)
-  act_tells (act.RecvStep conn n) = (end_tells n conn r ++ half_tells r (half_in ts n conn)) ++ admitted_tells n conn at r items puts
+  act_tells (act.SendStep conn n) = over_tells n conn r (half_in ts n conn) ++ done_tells r (sender_tells n conn at items puts)
+  act_tells (act.RecvStep conn n) = over_tells n conn r (half_in ts n conn) ++ admitted_tells n conn at r items puts
   act_tells (act.Recv c n) = []
   act_tells (act.Close c n) = done_tells r (telling.reader_dropped n c ∷ [])
   act_tells (act.Ask what n) = []

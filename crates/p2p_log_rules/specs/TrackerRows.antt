@@ -33,13 +33,13 @@ use Rattle.p2p_log_rules.specs.TrackerPuts.{Put, is_some_of, unblocked_puts, ite
 -- ---- what it is asked
 
 -- what a mailbox of this size tells of one message more than these: it keeps it also where it is full
-abbrev pub told_by : ℕ → List Envelope → Feedback
-told_by size waiting = cond (nat_lt (length waiting) size) feedback.Ok feedback.Backoff
+abbrev pub feedback_by : ℕ → List Envelope → Feedback
+feedback_by size waiting = cond (nat_lt (length waiting) size) feedback.Ok feedback.Backoff
 
 -- a question, which waits in the tracker's mailbox under the number of its event
 abbrev pub asked_row : List Config → List Entry → ℕ → Row
 asked_row configs log n = record {
-  reply = reply.Feedback (told_by (mailbox_size_at configs n) (line log (queue.Tracker n)));
+  reply = reply.Feedback (feedback_by (mailbox_size_at configs n) (line log (queue.Tracker n)));
   takes = [];
   puts = (queue.Tracker n, item.Call (length log)) ∷ [];
   ends = [];
@@ -77,14 +77,14 @@ abbrev pub rings_of : List Put → List Queue
 rings_of puts = flat_map (λ x. ring_of x.0) puts
 
 -- what it puts once it took the items of these names, and what that overwrites
-abbrev pub told_row : List Entry → List (ℕ × ℕ) → List Put → Row
-told_row log takes puts = record { reply = reply.Ok; takes = takes; puts = puts; ends = ring_ends (filter (stays takes) (live log)) (rings_of puts) }
+abbrev pub tracker_told_row : List Entry → List (ℕ × ℕ) → List Put → Row
+tracker_told_row log takes puts = record { reply = reply.Ok; takes = takes; puts = puts; ends = ring_ends (filter (stays takes) (live log)) (rings_of puts) }
 
 -- the oldest message
 abbrev pub served_row : List Config → List Entry → ℕ → ℕ → List Envelope → Row
 served_row configs log n at [] = only reply.Idle
 served_row configs log n at (x ∷ _) =
-    told_row log (name_of x ∷ [])
+    tracker_told_row log (name_of x ∷ [])
     (heeded (is_ended log n)
     (item_puts (rules_at configs n) n at (update_subscriptions log n) (blocked_subscriptions log n) (calls_of configs log n) log x.item))
 
@@ -92,7 +92,7 @@ served_row configs log n at (x ∷ _) =
 abbrev pub tracker_step : List Config → List Entry → ℕ → ℕ → Row
 tracker_step configs log n at =
     cond (is_some_of (due_keys key_cmp (rules_at configs n) (calls_of configs log n) at))
-    (told_row log []
+    (tracker_told_row log []
     (unblocked_puts (rules_at configs n) n at (update_subscriptions log n) (blocked_subscriptions log n) (calls_of configs log n) (call.UnblockExpired at)))
     (served_row configs log n at (line log (queue.Tracker n)))
 
@@ -102,17 +102,17 @@ tracker_row configs log n at = cond (is_up log n) (tracker_step configs log n at
 -- ---- what those who asked take
 
 -- whether an entry took the answer to this question
-abbrev pub is_answer : Reply → Bool
-is_answer (reply.PeerSet peers) = true
-is_answer _ = false
+abbrev pub is_peer_set : Reply → Bool
+is_peer_set (reply.PeerSet peers) = true
+is_peer_set _ = false
 
-abbrev pub answers : ℕ → Act → Reply → Bool
-answers e (act.Answer question) r = (question == e) && is_answer r
-answers e _ r = false
+abbrev pub takes_answer : ℕ → Act → Reply → Bool
+takes_answer e (act.Answer question) r = (question == e) && is_peer_set r
+takes_answer e _ r = false
 
 -- whether the answer to a question was taken
 unfoldable pub was_answered : List Entry → ℕ → Bool
-was_answered log e = list_any (λ d. answers e d.event.act d.reply) log
+was_answered log e = list_any (λ d. takes_answer e d.event.act d.reply) log
 
 abbrev pub taken_row : Reply → Envelope → Row
 taken_row r x = record { reply = r; takes = name_of x ∷ []; puts = []; ends = [] }

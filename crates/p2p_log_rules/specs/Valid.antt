@@ -8,7 +8,7 @@ use Rattle.p2p_log.specs.declared.event.Rate.{Rate}
 use Rattle.p2p_log.specs.declared.asked.Asked.TheVariants as ask
 use Rattle.p2p_log.specs.declared.event.Act.{Act}
 use Rattle.p2p_log.specs.declared.event.Act.TheVariants as act
-use Rattle.p2p_log_rules.specs.Facts.{has_started, registered, capacity_for, capacity_in, sum_capacities}
+use Rattle.p2p_log_rules.specs.Facts.{has_started, registered, capacity_for, capacity_in, sum_capacities, latest_moment}
 use Rattle.p2p_log_rules.specs.Effect.{mailbox_size_at}
 
 -- ---- configurations
@@ -52,11 +52,6 @@ config_fault configs = config_fault_from [] configs
 
 -- ---- events
 
-abbrev pub last_moment : List Event → ℕ
-last_moment [] = 0
-last_moment (v ∷ []) = v.at
-last_moment (v ∷ w ∷ vs) = last_moment (w ∷ vs)
-
 -- whether an act is a step of the node's spawner
 abbrev pub spawns_node : ℕ → Option Event → Bool
 spawns_node n None = false
@@ -97,14 +92,14 @@ is_linking configs (Some v) = links_nodes configs v.act
 abbrev pub names_link : List Config → List Event → ℕ → Bool
 names_link configs events link = is_linking configs (slice_get events link)
 
--- whether an act is a step of a listener
-abbrev pub is_listened : Option Event → Bool
-is_listened None = false
-is_listened (Some v) = elim v.act [ act.Listener m ↦ true | _ ↦ false ]
+-- whether an act is a step of the node's listener
+abbrev pub listens_node : ℕ → Option Event → Bool
+listens_node n None = false
+listens_node n (Some v) = elim v.act [ act.Listener m ↦ m == n | _ ↦ false ]
 
--- whether an earlier event is a step of a listener
-abbrev pub names_listener : List Event → ℕ → Bool
-names_listener events e = is_listened (slice_get events e)
+-- whether an earlier event is a step of the node's listener
+abbrev pub names_listener : List Event → ℕ → ℕ → Bool
+names_listener events n e = listens_node n (slice_get events e)
 
 -- a channel is registered once, before the start, with a quota, and its capacity and their sum can be counted
 abbrev pub may_register : List Config → List Event → ℕ → ℕ → Rate → Bool
@@ -155,7 +150,7 @@ may_act configs events (act.Next e) = is_node configs (subscribed_at (slice_get 
 may_act configs events (act.Tracker n) = nat_lt n (length configs)
 may_act configs events (act.Dialer n) = nat_lt n (length configs)
 may_act configs events (act.Listener n) = nat_lt n (length configs)
-may_act configs events (act.Handshake e n) = nat_lt n (length configs) && names_listener events e
+may_act configs events (act.Handshake e n) = nat_lt n (length configs) && names_listener events n e
 may_act configs events (act.Spawner n) = nat_lt n (length configs)
 may_act configs events (act.Attempt e n) = nat_lt n (length configs) && names_dialer events n e
 may_act configs events (act.Resolve addresses e n) = nat_lt n (length configs) && names_dialer events n e
@@ -165,7 +160,7 @@ may_act configs events (act.Finish link ok) = names_link configs events link
 
 -- moments never go back
 unfoldable pub is_valid_event : List Config → List Event → Event → Bool
-is_valid_event configs events v = nat_le (last_moment events) v.at && may_act configs events v.act
+is_valid_event configs events v = nat_le (latest_moment events) v.at && may_act configs events v.act
 
 -- the first event that breaks this, of those after these
 unfoldable pub event_fault_from : List Config → List Event → List Event → Option ℕ

@@ -4,30 +4,27 @@ use Rattle.p2p_log.specs.declared.config.Config.{Config}
 use Rattle.p2p_log.specs.declared.event.Rate.{Rate}
 use Rattle.p2p_log.specs.declared.event.Act.{Act}
 use Rattle.p2p_log.specs.declared.event.Act.TheVariants as act
-use Rattle.p2p_log_rules.specs.Connections.{steps_sender}
-use Rattle.p2p_log_rules.specs.Facts.{registers_at, starts, steps_router}
+use Rattle.p2p_log_rules.proofs.Connections.{steps_sender}
+use Rattle.p2p_log_rules.specs.Facts.{registers_at, starts}
 
--- an act that registers no channel, starts no node, and steps no router and no sending half
+-- an act that registers no channel, starts no node, and steps no sending half
 pub record IsPlain (a : Act) : Type 0 where
   pub registers : (configs : List Config) (n : ℕ) → registers_at configs n a ≡ []
   pub starts : (n : ℕ) → starts n a ≡ false
-  pub routes : (n : ℕ) → steps_router n a ≡ false
   pub sends : (n conn : ℕ) → steps_sender n conn a ≡ false
 
 pub data Kind (a : Act) : Type 0 where
   registering : (c n : ℕ) (rate : Rate) → a ≡ act.Register c n rate → Kind a
   starting : (n : ℕ) → a ≡ act.Start n → Kind a
-  routing : (n : ℕ) → a ≡ act.Router n → Kind a
   sending : (conn n : ℕ) → a ≡ act.SendStep conn n → Kind a
   plain : IsPlain a → Kind a
 
 pub kind_of : (a : Act) → Kind a
 kind_of (act.Register c n rate) = registering c n rate refl
 kind_of (act.Start n) = starting n refl
-kind_of (act.Router n) = routing n refl
 kind_of (act.SendStep conn n) = sending conn n refl
 kind_of _ =
-    plain (record { registers = λ _ _. refl; starts = λ _. refl; routes = λ _. refl; sends = λ _ _. refl })
+    plain (record { registers = λ _ _. refl; starts = λ _. refl; sends = λ _ _. refl })
 
 -- what an act is not, by what it would be
 
@@ -37,7 +34,6 @@ registers_unless configs n a h = by (kind_of a)
     by : Kind a → registers_at configs n a ≡ []
     by (registering c m rate is) = ap (registers_at configs n) is ∙ h c m rate is
     by (starting m is) = ap (registers_at configs n) is
-    by (routing m is) = ap (registers_at configs n) is
     by (sending conn m is) = ap (registers_at configs n) is
     by (plain p) = p.registers configs n
 
@@ -47,19 +43,8 @@ starts_unless n a h = by (kind_of a)
     by : Kind a → starts n a ≡ false
     by (registering c m rate is) = ap (starts n) is
     by (starting m is) = ap (starts n) is ∙ h m is
-    by (routing m is) = ap (starts n) is
     by (sending conn m is) = ap (starts n) is
     by (plain p) = p.starts n
-
-pub routes_unless : (n : ℕ) (a : Act) → ((m : ℕ) → a ≡ act.Router m → steps_router n (act.Router m) ≡ false) → steps_router n a ≡ false
-routes_unless n a h = by (kind_of a)
-  where
-    by : Kind a → steps_router n a ≡ false
-    by (registering c m rate is) = ap (steps_router n) is
-    by (starting m is) = ap (steps_router n) is
-    by (routing m is) = ap (steps_router n) is ∙ h m is
-    by (sending conn m is) = ap (steps_router n) is
-    by (plain p) = p.routes n
 
 pub sends_unless : (n conn : ℕ) (a : Act) → ((d m : ℕ) → a ≡ act.SendStep d m → steps_sender n conn (act.SendStep d m) ≡ false) → steps_sender n conn a ≡ false
 sends_unless n conn a h = by (kind_of a)
@@ -67,6 +52,5 @@ sends_unless n conn a h = by (kind_of a)
     by : Kind a → steps_sender n conn a ≡ false
     by (registering c m rate is) = ap (steps_sender n conn) is
     by (starting m is) = ap (steps_sender n conn) is
-    by (routing m is) = ap (steps_sender n conn) is
     by (sending d m is) = ap (steps_sender n conn) is ∙ h d m is
     by (plain p) = p.sends n conn

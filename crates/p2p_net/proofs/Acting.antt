@@ -5,6 +5,7 @@ use Rattle.std.specs.List.{list_any}
 use Rattle.std.proofs.lemmas.Bool.Decides.{nat_tests}
 use Rattle.std.proofs.lemmas.Option.{same_Some}
 use Rattle.std.proofs.lemmas.List.{length-set}
+use Rattle.p2p_log_rules.proofs.Bools.{and_false}
 use Rattle.p2p_log.specs.declared.config.Config.{Config}
 use Rattle.p2p_log.specs.declared.entry.Entry.{Entry}
 use Rattle.p2p_log.specs.declared.event.Event.{Event}
@@ -47,6 +48,7 @@ use Rattle.p2p_net.proofs.Offering.{send_performs}
 use Rattle.p2p_net.proofs.Dialing.{dialer_performs}
 use Rattle.p2p_net.proofs.Handshaking.{handshake_performs}
 use Rattle.p2p_net.proofs.Listened.{listener_performs}
+use Rattle.p2p_log_laws.proofs.HandedSides.{attempt_dialed, handshake_dialed}
 use Rattle.p2p_net.proofs.SpawnerStep.{spawner_performs}
 use Rattle.p2p_net.proofs.Stepping.{route_performs}
 use Rattle.p2p_net.proofs.Trying.{attempt_performs}
@@ -87,8 +89,8 @@ node_performs configs log moment seed (act.Spawner n) x y l links r s t lawful v
     (unbegun_late configs (events_of log) log lawful n (length log) (no_more (length log))) d.0 d.1
 node_performs configs log moment seed (act.Dialer n) x y l links r s t lawful valid late one d = dialer_performs configs log moment seed n x y l links r s t d.0 d.1
 node_performs configs log moment seed (act.Listener n) x y l links r s t lawful valid late one d = listener_performs configs log moment seed n x y l links r s t late d
-node_performs configs log moment seed (act.Handshake e n) x y l links r s t lawful valid late one d = handshake_performs configs log moment seed e n x y l links r s t d
-node_performs configs log moment seed (act.Attempt e n) x y l links r s t lawful valid late one d = attempt_performs configs log moment seed e n x y l links r s t d
+node_performs configs log moment seed (act.Handshake e n) x y l links r s t lawful valid late one d = handshake_performs configs log moment seed e n x y l links r s t (handshake_dialed configs (events_of log) log lawful n e) d
+node_performs configs log moment seed (act.Attempt e n) x y l links r s t lawful valid late one d = attempt_performs configs log moment seed e n x y l links r s t (attempt_dialed configs (events_of log) log lawful n e) d
 node_performs configs log moment seed (act.Resolve addresses e n) x y l links r s t lawful valid late one d = resolve_performs configs log moment seed addresses e n x y l links r s t d.0.0 d.0.1 d.1
 node_performs configs log moment seed (act.Refuse e n) x y l links r s t lawful valid late one d = refuse_performs configs log moment seed e n x y l links r s t d.0.0 d.0.1 d.1
 node_performs configs log moment seed (act.Connect e from n m) x y l links r s t lawful valid late one d = cc
@@ -96,11 +98,7 @@ node_performs configs log moment seed (act.Finish link ok) x y l links r s t law
 
 -- the parts of the other nodes are not named
 part_elsewhere : (p q : Part) (n m : ℕ) → (n == m) ≡ false → same_place (at p n) (at q m) ≡ false
-part_elsewhere p q n m ne = ap (λ b. same_part p q && b) ne ∙ and-false (same_part p q)
-  where
-    and-false : (b : Bool) → (b && false) ≡ false
-    and-false true = refl
-    and-false false = refl
+part_elsewhere p q n m ne = ap (λ b. same_part p q && b) ne ∙ and_false (same_part p q)
 
 parts_elsewhere : (parts : List Part) (q : Part) (n m : ℕ) → (n == m) ≡ false → list_any (λ p. same_place p (at q m)) (parts_of n parts) ≡ false
 parts_elsewhere [] q n m ne = refl

@@ -26,12 +26,18 @@ use Rattle.p2p_log_rules.specs.declared.row.Opening.{Opening}
 use Rattle.p2p_log_rules.specs.declared.row.ListeningEnd.{ListeningEnd}
 use Rattle.p2p_log_rules.specs.declared.row.ListeningEnd.TheVariants as listening
 use Rattle.p2p_log_rules.specs.declared.row.Row.{Row}
-use Rattle.p2p_log_rules.specs.Attempting.{Attempt, attempts_of, told_row, link_item, answered_row, connected_row}
-use Rattle.p2p_log_rules.proofs.Attempts.{told_link}
-use Rattle.p2p_log_rules.proofs.Listening.{known_of-kept}
+use Rattle.p2p_log_rules.specs.Attempting.{Attempt, DialRules, dial_rules_at, attempts_of, attempt_told_row, link_item, dial_answered_row, connected_row}
+use Rattle.p2p_log_rules.specs.Tellings as telling
+use Rattle.p2p_log_rules.specs.Told.{link_tells}
+use Rattle.p2p_log_rules.proofs.Attempts.{attempt_told}
+use Rattle.p2p_log_rules.proofs.AttemptTellings.{answered_told, opened_told}
+use Rattle.p2p_log_rules.proofs.Listening.{known_of-apart}
 use Rattle.p2p_log_rules.specs.Effect.{only, row, effect, entry_of}
 use Rattle.p2p_log_rules.specs.Facts.{key_at, is_up, with_named}
-use Rattle.p2p_log_rules.specs.Links.{arrived, ends_by, listening_ends_of}
+use Rattle.p2p_log_rules.specs.Links.{listening_ends_of}
+use Rattle.p2p_log_rules.proofs.Handshakes.{handshakes_of-apart}
+use Rattle.p2p_log_rules.proofs.Links.{listening_ends_of-linked, listening_ends_of-unlinked}
+use Rattle.p2p_net_listener.proofs.Leaving.{steps_apart}
 use Rattle.p2p_log_laws.proofs.Untouched.{line-untouched}
 use Rattle.p2p_net_queues.proofs.Going.{line-kept}
 use Rattle.p2p_net_queues.specs.Tables as table
@@ -51,9 +57,9 @@ use Rattle.p2p_net.specs.Places.{Part, dialer, listener, same_part, at, names}
 use Rattle.p2p_net.specs.Ready.{is_started}
 use Rattle.p2p_net.specs.Stands.{NodeStands, WorldStands}
 use Rattle.p2p_net.specs.declared.node.Node.{Node}
-use Rattle.p2p_net.proofs.Attempting.{DoesTo, does_itself, other_attempt}
+use Rattle.p2p_net.proofs.Attempting.{DoesTo, does_itself, other_attempt, other_named}
 use Rattle.p2p_net.proofs.Between.{IsBetween, dialer_told}
-use Rattle.p2p_net.proofs.DialAnswers.{answer_row, answer_row_is, dial_answered, acted_answer}
+use Rattle.p2p_net.proofs.DialAnswers.{answer_row, answer_row_is, dial_answered}
 use Rattle.p2p_net.proofs.EachPart.{is_in, each_part}
 use Rattle.p2p_net.proofs.Frames.{makes_none, part_frame}
 use Rattle.p2p_net.proofs.Nodes.{slice_get-set, below}
@@ -65,7 +71,7 @@ use Rattle.p2p_net.proofs.Touching.{first_false, second_false}
 
 -- what comes of the attempt, by what is said of it, with the arrival
 connected_by : (o : Option SocketAddr) (answered up : Bool) (name n m : ℕ) (arrival : Item)
-    → connected_row o answered up name n m arrival ≡ with_arrival (arrives up (answered_row o answered up name n).reply) m arrival (answered_row o answered up name n)
+    → connected_row o answered up name n m arrival ≡ with_arrival (arrives up (dial_answered_row o answered up name n).reply) m arrival (dial_answered_row o answered up name n)
 connected_by None answered true name n m arrival = refl
 connected_by None answered false name n m arrival = refl
 connected_by (Some s) true true name n m arrival = refl
@@ -92,8 +98,8 @@ connect_row_is configs log moment seed name n m from = refl
 -- the row of what is told: of nothing, of a refusal, or of a link, with which the peer arrives
 data Told (up : Bool) (name n : ℕ) (told : Row) : Type 0 where
   nothing : (rep : Reply) → is_ok_reply rep ≡ false → told ≡ only rep → arrives up told.reply ≡ false → Told up name n told
-  refused : told ≡ told_row name n item.Refused → arrives up told.reply ≡ false → Told up name n told
-  linked : told ≡ told_row name n item.Linked → arrives up told.reply ≡ true → Told up name n told
+  refused : told ≡ attempt_told_row name n item.Refused → arrives up told.reply ≡ false → Told up name n told
+  linked : told ≡ attempt_told_row name n item.Linked → arrives up told.reply ≡ true → Told up name n told
 
 none_arrives : (up : Bool) → (arrives up reply.Gone ≡ false) × (arrives up reply.Pending ≡ false)
 none_arrives true = (refl, refl)
@@ -103,20 +109,22 @@ told_by : (o : Option Attempt) (up : Bool) (name n : ℕ) → Told up name n (an
 told_by None up name n = nothing reply.Gone refl refl (none_arrives up).0
 told_by (Some a) up name n = by a.address (is_some a.answer) up
   where
-    by : (o : Option SocketAddr) (answered up : Bool) → Told up name n (answered_row o answered up name n)
+    by : (o : Option SocketAddr) (answered up : Bool) → Told up name n (dial_answered_row o answered up name n)
     by None answered up = nothing reply.Pending refl refl (none_arrives up).1
     by (Some s) true up = nothing reply.Gone refl refl (none_arrives up).0
     by (Some s) false true = linked refl refl
     by (Some s) false false = refused refl refl
 
 -- an attempt that was told of a link has its end
-linked_is : (k m name n : ℕ) (arrival : Item) (up : Bool) (told : Row) → told ≡ told_row name n (link_item up) → (b : Attempt)
-    → told_link k reply.Ok (with_arrival (arrives up told.reply) m arrival told).puts b ≡ record b { answer = Some k; link = cond up (Some k) b.link }
-linked_is k m name n arrival up told is b = ap (λ (t : Row). told_link k reply.Ok (with_arrival (arrives up t.reply) m arrival t).puts b) is ∙ by up
+linked_is : (rules : DialRules) (k m name n : ℕ) (arrival : Item) (up : Bool) (told : Row) → told ≡ attempt_told_row name n (link_item up) → (b : Attempt)
+    → attempt_told rules n name (telling.dial_answered n name k ∷ link_tells n name k m (with_arrival (arrives up told.reply) m arrival told).puts) (Some b) ≡ Some (record b { answer = Some k; link = cond up (Some k) b.link })
+linked_is rules k m name n arrival up told is b =
+    ap (λ (t : Row). attempt_told rules n name (telling.dial_answered n name k ∷ link_tells n name k m (with_arrival (arrives up t.reply) m arrival t).puts) (Some b)) is ∙ by up
   where
-    by : (v : Bool) → told_link k reply.Ok (with_arrival (arrives v reply.Ok) m arrival (told_row name n (link_item v))).puts b ≡ record b { answer = Some k; link = cond v (Some k) b.link }
-    by true = refl
-    by false = refl
+    by : (v : Bool)
+        → attempt_told rules n name (telling.dial_answered n name k ∷ link_tells n name k m (with_arrival (arrives v reply.Ok) m arrival (attempt_told_row name n (link_item v))).puts) (Some b) ≡ Some (record b { answer = Some k; link = cond v (Some k) b.link })
+    by true = opened_told rules n name k m b
+    by false = answered_told rules n name k b
 
 -- ---- what it does to the queues of an attempt
 
@@ -202,8 +210,8 @@ module _ (configs : List Config) (log : List Entry) (moment seed name n m : ℕ)
   dialer_now : DialerStands configs (log ++ e ∷ []) n c.after.dialing
   dialer_now =
       dial_answered configs log moment seed name n up (act.Connect name from n m) due due_is c.first.dialing c.after.dialing first_dialer refl refl
-      (λ j other. (refl, ap (λ b. b || false) (other_attempt n name j other))) (told_link k) (λ rep items puts. tt) (λ rep items puts j. acted_answer configs log n name (told_link k rep puts) j)
-      (λ b. (refl, refl)) c.answers.1.0 c.told answers (arrival_does (queue.Attempt n name) k m arrival comes c.told refl) (linked_is k m name n arrival up c.told)
+      (λ j other. (refl, ap (λ b. b || false) (other_attempt n name j other))) (λ j other. (other_named n name j other, other_named n name j other))
+      (refl, refl) c.answers.1.0 c.told answers (arrival_does (queue.Attempt n name) k m arrival comes c.told refl) (linked_is (dial_rules_at configs n) k m name n arrival up c.told)
 
   -- the arrivals at the nodes
   kind : Told up name n c.told
@@ -225,12 +233,12 @@ module _ (configs : List Config) (log : List Entry) (moment seed name n m : ℕ)
   line_due j b is here (nothing rep silent same none) =
       nobody_comes j b is (only rep) same none (line-still log (entry_of ev (only rep)) rep (queue.Arrivals j) (record { reply = refl; takes = refl; puts = refl; ends = refl }))
   line_due j b is here (refused same none) =
-      nobody_comes j b is (told_row name n item.Refused) same none (line-kept log (entry_of ev (told_row name n item.Refused)) (queue.Arrivals j) refl ∙ append-nil (line log (queue.Arrivals j)))
+      nobody_comes j b is (attempt_told_row name n item.Refused) same none (line-kept log (entry_of ev (attempt_told_row name n item.Refused)) (queue.Arrivals j) refl ∙ append-nil (line log (queue.Arrivals j)))
   line_due j b is here (linked same some) =
       let q : Queue = queue.Arrivals j in
       let at : m ≡ j = eqb-true m j here in
       subst (LineAfter j b) (sym (ap (λ t. with_arrival t m arrival c.told) some ∙ ap (with_arrival true m arrival) same))
-      (line-kept log (entry_of ev (with_arrival true m arrival (told_row name n item.Linked))) q refl
+      (line-kept log (entry_of ev (with_arrival true m arrival (attempt_told_row name n item.Linked))) q refl
       ∙ (ap (λ t. line log q ++ cond t (record { entry = k; place = 1; queue = queue.Arrivals m; item = arrival } ∷ []) []) (ap (λ i. same_queue q (queue.Arrivals i)) at ∙ same_queue-refl q)
       ∙ (ap (λ i. line log q ++ record { entry = k; place = 1; queue = queue.Arrivals i; item = arrival } ∷ []) at
       ∙ (ap (λ (t : Row). line log q ++ record { entry = k; place = length t.puts; queue = q; item = arrival } ∷ []) (sym same)
@@ -249,38 +257,6 @@ module _ (configs : List Config) (log : List Entry) (moment seed name n m : ℕ)
   end_with true now i = with_named k (Some listening.Arriving) now i
   end_with false now i = now i
 
-  arrived_due : (b : Bool) → comes ≡ b → Told up name n c.told → (now : ℕ → Option ListeningEnd) (i : ℕ) → arrived k due.reply due.puts now i ≡ end_with b now i
-  arrived_due b is (nothing rep silent same none) now i = nobody b (with_arrival false m arrival (only rep)) (ap (λ t. with_arrival t m arrival c.told) none ∙ same) (sym none ∙ is) (by_reply rep silent)
-    where
-      by_reply : (p : Reply) → is_ok_reply p ≡ false → arrived k p [] now i ≡ now i
-      by_reply reply.Ok h = refl
-      by_reply _ h = refl
-
-      nobody : (t : Bool) (d : Row) → due ≡ d → false ≡ t → arrived k d.reply d.puts now i ≡ now i → arrived k due.reply due.puts now i ≡ end_with t now i
-      nobody false d due_is_d so h = ap (λ (z : Row). arrived k z.reply z.puts now i) due_is_d ∙ h
-      nobody true d due_is_d so h = cc
-  arrived_due b is (refused same none) now i = nobody b (sym none ∙ is)
-    where
-      told_one : due ≡ told_row name n item.Refused
-      told_one = ap (λ t. with_arrival t m arrival c.told) none ∙ same
-
-      nobody : (t : Bool) → false ≡ t → arrived k due.reply due.puts now i ≡ end_with t now i
-      nobody false so = ap (λ (z : Row). arrived k z.reply z.puts now i) told_one
-      nobody true so = cc
-  arrived_due b is (linked same some) now i = somebody b (sym some ∙ is)
-    where
-      told_two : due ≡ with_arrival true m arrival (told_row name n item.Linked)
-      told_two = ap (λ t. with_arrival t m arrival c.told) some ∙ ap (with_arrival true m arrival) same
-
-      somebody : (t : Bool) → true ≡ t → arrived k due.reply due.puts now i ≡ end_with t now i
-      somebody true so = ap (λ (z : Row). arrived k z.reply z.puts now i) told_two
-      somebody false so = cc
-
-  end_of : (b : Bool) → comes ≡ b → (j : ℕ) → (m == j) ≡ true → (i : ℕ) → ends_by j log e (ends j) i ≡ end_with b (ends j) i
-  end_of b is j here i =
-      subst (λ (z : Entry). ends_by j log z (ends j) i ≡ end_with b (ends j) i) is_effect
-      (ap (λ t. cond t (arrived k due.reply due.puts (ends j) i) (ends j i)) here ∙ arrived_due b is kind (ends j) i)
-
   -- ---- the links
 
   abbrev opening : Opening
@@ -296,16 +272,31 @@ module _ (configs : List Config) (log : List Entry) (moment seed name n m : ℕ)
       (openings_unanswered log (entry_of ev due) (ap (λ (d : Row). is_ok_reply d.reply) (ap (λ t. with_arrival t m arrival c.told) none ∙ same) ∙ silent))
   nothing_opened (refused same none) no_one =
       subst (OpensNone log) is_effect
-      (openings_linkless log (entry_of ev due) opening (queue.Attempt n name, item.Refused) refl (ap (λ (d : Row). d.puts) (ap (λ t. with_arrival t m arrival c.told) none ∙ same)))
+      (openings_linkless log (entry_of ev due) name n m from (queue.Attempt n name, item.Refused) refl (ap (λ (d : Row). d.puts) (ap (λ t. with_arrival t m arrival c.told) none ∙ same)))
   nothing_opened (linked same some) no_one = absurd (false≢true (sym no_one ∙ some))
 
   one_opened : Told up name n c.told → comes ≡ true → Opens log e opening
   one_opened (nothing rep silent same none) some_one = absurd (false≢true (sym none ∙ some_one))
   one_opened (refused same none) some_one = absurd (false≢true (sym none ∙ some_one))
   one_opened (linked same some) some_one =
-      let due_two : due ≡ with_arrival true m arrival (told_row name n item.Linked) = ap (λ t. with_arrival t m arrival c.told) some ∙ ap (with_arrival true m arrival) same in
+      let due_two : due ≡ with_arrival true m arrival (attempt_told_row name n item.Linked) = ap (λ t. with_arrival t m arrival c.told) some ∙ ap (with_arrival true m arrival) same in
       subst (λ (z : Entry). Opens log z opening) is_effect
-      (openings_opened log (entry_of ev due) opening (queue.Attempt n name, item.Linked) (queue.Arrivals m, arrival) [] refl (ap (λ (d : Row). d.reply) due_two) (ap (λ (d : Row). d.puts) due_two))
+      (openings_opened log (entry_of ev due) opening from (queue.Attempt n name, item.Linked) (queue.Arrivals m, arrival) [] refl (ap (λ (d : Row). d.reply) due_two) (ap (λ (d : Row). d.puts) due_two))
+
+  -- what has the listening ends then
+  end_of : (b : Bool) → comes ≡ b → (j : ℕ) → (m == j) ≡ true → (i : ℕ) → listening_ends_of (log ++ e ∷ []) j i ≡ end_with b (ends j) i
+  end_of false no_one j here i =
+      subst (λ (z : Entry). listening_ends_of (log ++ z ∷ []) j i ≡ ends j i) is_effect
+      (listening_ends_of-unlinked log (entry_of ev due) j name n m from refl (subst (OpensNone log) (sym is_effect) (nothing_opened kind no_one)) i)
+  end_of true some_one j here i = subst (λ (z : Entry). listening_ends_of (log ++ z ∷ []) j i ≡ end_with true (ends j) i) is_effect (begun kind)
+    where
+      begun : Told up name n c.told → listening_ends_of (log ++ entry_of ev due ∷ []) j i ≡ end_with true (ends j) i
+      begun (nothing rep silent same none) = absurd (false≢true (sym none ∙ some_one))
+      begun (refused same none) = absurd (false≢true (sym none ∙ some_one))
+      begun (linked same some) =
+          let due_two : due ≡ with_arrival true m arrival (attempt_told_row name n item.Linked) = ap (λ t. with_arrival t m arrival c.told) some ∙ ap (with_arrival true m arrival) same in
+          listening_ends_of-linked log (entry_of ev due) j name n m from (queue.Attempt n name, item.Linked) (queue.Arrivals m, arrival) [] refl (ap (λ (d : Row). d.reply) due_two) (ap (λ (d : Row). d.puts) due_two) i
+          ∙ ap (λ t. cond t (end_with true (ends j) i) (ends j i)) here
 
   none_dropped : DropsNone log e
   unfolding effect
@@ -360,9 +351,9 @@ module _ (configs : List Config) (log : List Entry) (moment seed name n m : ℕ)
     where
       by : (t : Bool) → (m == j) ≡ t → IsBetween configs log e j w → ListenerStands configs (log ++ e ∷ []) j w.listening
       by true here b = listener_frame configs log e j w.listening (still_listens j w b) (record {
-        known = known_of-kept configs log e j refl;
-        handshakes = refl;
-        tells = λ i. other_tells log e j i refl;
+        known = known_of-apart configs log e j refl;
+        handshakes = handshakes_of-apart log e j refl;
+        tells = λ i. other_tells log e j i (λ so. cc);
         ends = λ i. end_of false none j here i;
         arrivals = line_of false none j here ∙ append-nil (line log (queue.Arrivals j));
       })
@@ -383,7 +374,7 @@ module _ (configs : List Config) (log : List Entry) (moment seed name n m : ℕ)
           let b = between m y there in
           subst (NodeStands configs (log ++ e ∷ []) j) it
           (subst (λ i. NodeStands configs (log ++ e ∷ []) i (arrived_at y)) (eqb-true m j here)
-          (after_arrival m y (arrived_at y).listening b (listener_arrived configs log e m k (length c.told.puts) from (key_at configs n) y.listening (still_listens m y b) refl (line_of true some m (eq-eqb m m refl)) (λ i. end_of true some m (eq-eqb m m refl) i))))
+          (after_arrival m y (arrived_at y).listening b (listener_arrived configs log e m k (length c.told.puts) from (key_at configs n) y.listening (still_listens m y b) (steps_apart log e m refl) (line_of true some m (eq-eqb m m refl)) (λ i. end_of true some m (eq-eqb m m refl) i))))
       by false other g = let b = between j z g in after_arrival j z z.listening b (nobody_listens j z b other)
 
   arrival_is : Arrives comes m k (length c.told.puts) from (key_at configs n) mid new

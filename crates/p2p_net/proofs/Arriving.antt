@@ -3,6 +3,7 @@ use Rattle.std.proofs.Common.{◌≡◌, ℕ, ◌≤◌, Bool, true, false, cond
 use Rattle.std.specs.Prelude.{nat_le, ◌==◌, ◌&&◌, not}
 use Rattle.std.specs.Option.{option_map}
 use Rattle.std.proofs.lemmas.Bool.Decides.{nat_tests}
+use Rattle.p2p_log_rules.proofs.Bools.{and_true}
 use Rattle.p2p_log.specs.declared.config.Config.{Config}
 use Rattle.p2p_log.specs.declared.queue.Queue.TheVariants as queue
 use Rattle.p2p_log.specs.declared.item.Item.{Item}
@@ -28,9 +29,11 @@ use Rattle.p2p_log_rules.specs.Closing as closing
 use Rattle.p2p_log_rules.specs.Closing.{refused_by}
 use Rattle.p2p_log_rules.specs.Effect
 use Rattle.p2p_log_rules.specs.Effect.{only, delivered_row, deliver_row, hold_row, pass_row, frame_row, retry_row}
-use Rattle.p2p_log_rules.specs.Connections.{steps_receiver, is_end}
+use Rattle.p2p_log_rules.specs.Connections.{is_end}
 use Rattle.p2p_log_rules.specs.Ending.{end_row}
-use Rattle.p2p_log_rules.specs.Metering.{Metered, pings, messages, is_of, metered_by, metered_in, holds, limit_at, admits_one, admitted_by, may_pass}
+use Rattle.p2p_log_rules.specs.Metering.{Metered, pings, messages, is_of, metered_by, metered_in, holds, limit_at, admitted_by, may_pass}
+use Rattle.p2p_log_rules.proofs.Connections.{steps_receiver}
+use Rattle.p2p_log_rules.proofs.Metering.{admits_one, admitted_is}
 use Rattle.p2p_log_laws.proofs.Fitting.{fits}
 use Rattle.p2p_net_queues.specs.Rows.{taken_row}
 use Rattle.p2p_net_channels.specs.declared.arrival.Arrived.{Arrived}
@@ -83,19 +86,16 @@ held_read limit _ a h = absurd (cc)
 pub admitted_here : (limit n conn d at : ℕ) (what kind : Metered) (log : List Entry) (e : Entry) (i : Item) (held : Bool) → e.event.act ≡ act.RecvStep conn n → is_end e.reply ≡ false → e.event.at ≡ at → taken log e ≡ i ∷ []
     → metered_in limit i ≡ Some kind → holds e.puts ≡ held → admitted_by limit n d what log e ≡ cond ((d == conn) && (is_of what (Some kind) && not held)) (at ∷ []) []
 admitted_here limit n conn d at what kind log e i held acts lives is took counts puts =
-    ap (λ b. cond (steps_receiver n d e.event.act && not b && admits_one limit what (taken log e) e.puts) (e.event.at ∷ []) []) lives
+    admitted_is limit n d what log e
+    ∙ (ap (λ b. cond (steps_receiver n d e.event.act && not b && admits_one limit what (taken log e) e.puts) (e.event.at ∷ []) []) lives
     ∙ (ap (λ b. cond (b && admits_one limit what (taken log e) e.puts) (e.event.at ∷ []) []) (and_true (steps_receiver n d e.event.act))
     ∙ (ap (λ a. cond (steps_receiver n d a && admits_one limit what (taken log e) e.puts) (e.event.at ∷ []) []) acts
     ∙ (ap (λ items. cond (((n == n) && (conn == d)) && admits_one limit what items e.puts) (e.event.at ∷ []) []) took
     ∙ (ap (λ k. cond (((n == n) && (conn == d)) && (is_of what k && not (holds e.puts))) (e.event.at ∷ []) []) counts
     ∙ (ap (λ h. cond (((n == n) && (conn == d)) && (is_of what (Some kind) && not h)) (e.event.at ∷ []) []) puts
     ∙ (ap (λ b. cond (b && (is_of what (Some kind) && not held)) (e.event.at ∷ []) []) (here n conn d)
-    ∙ ap (λ t. cond ((d == conn) && (is_of what (Some kind) && not held)) (t ∷ []) []) is))))))
+    ∙ ap (λ t. cond ((d == conn) && (is_of what (Some kind) && not held)) (t ∷ []) []) is)))))))
   where
-    and_true : (b : Bool) → (b && true) ≡ b
-    and_true true = refl
-    and_true false = refl
-
     here : (n conn d : ℕ) → ((n == n) && (conn == d)) ≡ (d == conn)
     here n conn d = grind (arith, nat_tests)
 

@@ -1,10 +1,10 @@
 -- What attempts are told.
-use Rattle.std.proofs.Common.{◌≡◌, ℕ, Bool, true, false, cond, List, [], ◌∷◌, ◌++◌, map, length, refl, ap, sym, subst, ◌∙◌, arith, Option, Some, None}
-use Rattle.std.specs.Prelude.{filter, flat_map, ◌==◌, ◌||◌}
+use Rattle.std.proofs.Common.{◌≡◌, ℕ, Bool, true, false, cond, List, [], ◌∷◌, ◌++◌, map, length, refl, ap, sym, subst, ◌∙◌, arith, eq-eqb, Option, Some, None}
+use Rattle.std.specs.Prelude.{filter, flat_map, ◌==◌, ◌&&◌, ◌||◌}
 use Rattle.std.specs.List.{list_any}
-use Rattle.std.specs.Option.{option_map}
 use Rattle.std.proofs.lemmas.Bool.Decides.{nat_tests}
 use Rattle.std.proofs.lemmas.List.{map-append}
+use Rattle.p2p_log_rules.proofs.Bools.{or_false}
 use Rattle.p2p_base.specs.declared.key.Key.{Key}
 use Rattle.p2p_tracker_directory.specs.declared.metadata.Metadata.{Metadata}
 use Rattle.p2p_gates.specs.declared.config.Config.{Config as Gates}
@@ -25,9 +25,13 @@ use Rattle.p2p_log.specs.QueueCode.{same_queue}
 use Rattle.p2p_log.specs.Lines.{name_of, placed, ended_item, stays, live, stands_in, line}
 use Rattle.p2p_log.proofs.Queues.{same_queue-refl}
 use Rattle.p2p_log_rules.specs.declared.row.Row.{Row}
-use Rattle.p2p_log_rules.specs.Attempting.{Attempt, dial_rules_at, attempts_of, told_row}
-use Rattle.p2p_log_rules.proofs.Attempts.{acted_attempts, Heeds, attempts_of-append, attempts_acted}
+use Rattle.p2p_log_rules.specs.Attempting.{Attempt, dial_rules_at, attempts_of, attempt_told_row}
+use Rattle.p2p_log_rules.specs.Tellings.{Telling}
+use Rattle.p2p_log_rules.specs.Told.{act_tells, told}
+use Rattle.p2p_log_rules.proofs.Attempts.{of_attempt, attempt_told}
+use Rattle.p2p_log_rules.proofs.AttemptTellings.{attempts_of-act, attempts_of-others}
 use Rattle.p2p_log_rules.proofs.Dialing.{dials_by, dials_of-kept}
+use Rattle.p2p_log_rules.proofs.Told.{NoneTold}
 use Rattle.p2p_log_rules.specs.Effect.{only, row, effect, entry_of}
 use Rattle.p2p_log_rules.specs.Connections.{half_at}
 use Rattle.p2p_log_rules.specs.Dropping.{LinkEnd, other_side, dialing_end, arriving_end, half_end}
@@ -84,11 +88,7 @@ ends_of configs log n k (act.SendStep conn m) h = unflown (half_end (half_at log
 ends_of configs log n k (act.RecvStep conn m) h = unflown (half_end (half_at log m conn)) n k
 ends_of configs log n k (act.Attempt e m) h =
     ap (λ b. same_queue (queue.Attempt m e) (queue.Attempt n k) || b) (unflown (dialing_end log m e) n k)
-    ∙ (or_none (same_queue (queue.Attempt m e) (queue.Attempt n k)) ∙ h)
-  where
-    or_none : (b : Bool) → (b || false) ≡ b
-    or_none true = refl
-    or_none false = refl
+    ∙ (or_false (same_queue (queue.Attempt m e) (queue.Attempt n k)) ∙ h)
 ends_of configs log n k (act.Handshake e m) h = unflown (Some ((peer_at log e).link, side.In)) n k
 ends_of configs log n k (act.Listener m) h = unflown (arriving_end log m) n k
 ends_of configs log n k _ h = h
@@ -121,15 +121,20 @@ line_does log ev q due told h =
     ∙ (ap (λ p. filter (stands_in q) (filter (stays (told.takes ++ flat_map ended_item told.ends)) (live log)) ++ p) h.puts
     ∙ sym (line-append log (entry_of ev told) q))))
 
+-- what an act tells with such a row, and this reply
+abbrev pub act_tellings : List Entry → ℕ → ℕ → Act → Row → Reply → List Telling
+act_tellings log moment seed a due rep = act_tells (told log) log (length log) moment seed rep (taken log (entry_of (asked moment seed a) due)) due.puts a
+
+-- another name is not this one
+pub other_named : (n name j : ℕ) → (j == name) ≡ false → ((n == n) && (j == name)) ≡ false
+other_named n name j other = ap (λ b. b && (j == name)) (eq-eqb n n refl) ∙ other
+
 -- ---- the dialer, where the row of the act does this to the attempt
 
 module _ (configs : List Config) (log : List Entry) (moment seed n name : ℕ) (a : Act) (due : Row) (due_is : row configs log moment seed a ≡ due) (d u : Dialing) (stood : DialerStands configs log n d)
     (no_start : starts n a ≡ false) (no_dials : dials_by n a ≡ false)
     (others : (j : ℕ) → (j == name) ≡ false → (reads configs log a (queue.Attempt n j) ≡ false) × (writes configs log a (queue.Attempt n j) ≡ false))
-    (f : Reply → List (Queue × Item) → Attempt → Attempt)
-    (heeds : (rep : Reply) (items : List Item) (puts : List (Queue × Item)) → Heeds (dial_rules_at configs n) n (length log) moment seed rep items puts a (attempts_of configs log n))
-    (acted : (rep : Reply) (items : List Item) (puts : List (Queue × Item)) (j : ℕ)
-    → acted_attempts (dial_rules_at configs n) n (length log) moment seed rep items puts a (attempts_of configs log n) j ≡ cond (j == name) (option_map (f rep puts) (attempts_of configs log n name)) (attempts_of configs log n j))
+    (quiet : (j : ℕ) → (j == name) ≡ false → NoneTold (of_attempt n j) (length log) moment a)
     (kept : u.actor ≡ d.actor) where
   abbrev ev : Event
   ev = asked moment seed a
@@ -153,49 +158,51 @@ module _ (configs : List Config) (log : List Entry) (moment seed n name : ℕ) (
   abbrev attempts : ℕ → Option Attempt
   attempts = attempts_of configs log n
 
+  -- what it is by what the act tells, with this reply
+  abbrev next : Reply → Option Attempt
+  next rep = attempt_told (dial_rules_at configs n) n name (act_tellings log moment seed a due rep) (attempts name)
+
   others_stay : (j : ℕ) → (j == name) ≡ false → line (log ++ e ∷ []) (queue.Attempt n j) ≡ line log (queue.Attempt n j)
   others_stay j other =
       let away = others j other in
       subst (λ (z : Entry). line (log ++ z ∷ []) (queue.Attempt n j) ≡ line log (queue.Attempt n j)) (sym is_effect)
       (line-untouched configs log ev (queue.Attempt n j) (reads_of configs log n j a away.0) (writes_of configs log n j a away.1) (ends_of configs log n j a away.1))
 
-  changed : (now : Option RunningAttempt) (told : Row) → DoesTo q k due told → AreBut name now d.attempts u.attempts
-      → AttemptStands g name now (option_map (f told.reply due.puts) (attempts name)) (line (log ++ entry_of ev told ∷ []) q) → DialerStands configs (log ++ effect configs log ev ∷ []) n u
-  changed now told same but stands =
+  changed : (now : Option RunningAttempt) (done : Row) → DoesTo q k due done → AreBut name now d.attempts u.attempts
+      → AttemptStands g name now (next done.reply) (line (log ++ entry_of ev done ∷ []) q) → DialerStands configs (log ++ effect configs log ev ∷ []) n u
+  changed now done same but stands =
       subst (λ (z : Entry). DialerStands configs (log ++ z ∷ []) n u) is_effect
-      (attempt_changed configs log e n name d u now (option_map (f told.reply due.puts) (attempts name)) stood
+      (attempt_changed configs log e n name d u now (next done.reply) stood
       (record {
         no_start = no_start;
         dials = dials_of-kept configs log e n no_dials;
         actor = kept;
         others = but;
-        tried = λ j.
-            attempts_of-append configs log e n j
-            ∙ (attempts_acted configs log e n j attempts (heeds e.reply (taken log e) e.puts)
-            ∙ (acted e.reply (taken log e) e.puts j ∙ ap (λ rep. cond (j == name) (option_map (f rep due.puts) (attempts name)) (attempts j)) same.reply));
+        tried = attempts_of-act configs log e n name a refl ∙ ap next same.reply;
+        untried = λ j other. attempts_of-others configs log e n j a refl (quiet j other);
         lines = others_stay;
-        stands = subst (AttemptStands g name now (option_map (f told.reply due.puts) (attempts name))) (sym (line_does log ev q due told same)) stands;
+        stands = subst (AttemptStands g name now (next done.reply)) (sym (line_does log ev q due done same)) stands;
       }))
 
   -- nothing is told
-  pub untold_stands : (now : Option RunningAttempt) (rep : Reply) → DoesTo q k due (only rep) → AreBut name now d.attempts u.attempts → option_map (f rep due.puts) (attempts name) ≡ attempts name
+  pub untold_stands : (now : Option RunningAttempt) (rep : Reply) → DoesTo q k due (only rep) → AreBut name now d.attempts u.attempts → next rep ≡ attempts name
       → now ≡ table.at d.attempts name → DialerStands configs (log ++ effect configs log ev ∷ []) n u
   untold_stands now rep same but no_change now_is =
       changed now (only rep) same but
-      (subst (AttemptStands g name now (option_map (f rep due.puts) (attempts name))) (sym (line-still log (entry_of ev (only rep)) rep q (record { reply = refl; takes = refl; puts = refl; ends = refl })))
+      (subst (AttemptStands g name now (next rep)) (sym (line-still log (entry_of ev (only rep)) rep q (record { reply = refl; takes = refl; puts = refl; ends = refl })))
       (subst (λ o. AttemptStands g name now o (line log q)) (sym no_change)
       (subst (λ o. AttemptStands g name o (attempts name) (line log q)) (sym now_is) (stood.attempts name))))
 
   -- this is told
-  told_line : (i : Item) → line (log ++ entry_of ev (told_row name n i) ∷ []) q ≡ line log q ++ record { entry = k; place = 0; queue = q; item = i } ∷ []
+  told_line : (i : Item) → line (log ++ entry_of ev (attempt_told_row name n i) ∷ []) q ≡ line log q ++ record { entry = k; place = 0; queue = q; item = i } ∷ []
   told_line i =
       let z : Envelope = record { entry = k; place = 0; queue = q; item = i } in
-      line-kept log (entry_of ev (told_row name n i)) q refl ∙ ap (λ b. line log q ++ cond b (z ∷ []) []) (same_queue-refl q)
+      line-kept log (entry_of ev (attempt_told_row name n i)) q refl ∙ ap (λ b. line log q ++ cond b (z ∷ []) []) (same_queue-refl q)
 
-  pub told_stands : (now : Option RunningAttempt) (i : Item) → DoesTo q k due (told_row name n i) → AreBut name now d.attempts u.attempts
-      → AttemptStands g name now (option_map (f reply.Ok due.puts) (attempts name)) (line log q ++ record { entry = k; place = 0; queue = q; item = i } ∷ []) → DialerStands configs (log ++ effect configs log ev ∷ []) n u
+  pub told_stands : (now : Option RunningAttempt) (i : Item) → DoesTo q k due (attempt_told_row name n i) → AreBut name now d.attempts u.attempts
+      → AttemptStands g name now (next reply.Ok) (line log q ++ record { entry = k; place = 0; queue = q; item = i } ∷ []) → DialerStands configs (log ++ effect configs log ev ∷ []) n u
   told_stands now i same but stands =
-      changed now (told_row name n i) same but (subst (AttemptStands g name now (option_map (f reply.Ok due.puts) (attempts name))) (sym (told_line i)) stands)
+      changed now (attempt_told_row name n i) same but (subst (AttemptStands g name now (next reply.Ok)) (sym (told_line i)) stands)
 
 -- ---- an act that tells an attempt something, and nobody else
 

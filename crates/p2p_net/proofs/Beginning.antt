@@ -1,8 +1,10 @@
 -- A connection begins: its node's tracker and router are told whom it is with.
 use Rattle.std.proofs.Common.{◌≡◌, ℕ, Bool, true, false, cond, List, [], ◌∷◌, ◌++◌, length, refl, ap, sym, subst, ◌∙◌, append-nil, Option, Some, None}
-use Rattle.std.specs.Prelude.{map, ◌==◌, is_some}
+use Rattle.std.specs.Prelude.{◌&&◌, is_some}
+use Rattle.std.specs.List.{list_any}
 use Rattle.std.specs.BTreeMap as tree
 use Rattle.std.specs.Ordering.{nat_cmp, is_eq}
+use Rattle.p2p_log_rules.proofs.Bools.{and_false}
 use Rattle.p2p_log.specs.declared.config.Config.{Config}
 use Rattle.p2p_log.specs.declared.queue.Queue.{Queue}
 use Rattle.p2p_log.specs.declared.queue.Queue.TheVariants as queue
@@ -19,10 +21,10 @@ use Rattle.p2p_log.specs.Lines.{line}
 use Rattle.p2p_log.proofs.Queues.{same_queue-sym}
 use Rattle.p2p_log_rules.specs.declared.row.Half.{Half}
 use Rattle.p2p_log_rules.specs.declared.row.Row.{Row}
-use Rattle.p2p_log_rules.specs.Connections.{live_connection, live_half, is_begun, is_answer, is_running, is_ended}
+use Rattle.p2p_log_rules.specs.Connections.{begins, live_connection, live_half, is_begun, is_answer, has_run, is_ended}
 use Rattle.p2p_log_rules.specs.Effect.{row, effect, entry_of, begin_row, mailbox_size_at}
 use Rattle.p2p_log_rules.specs.Facts.{is_up, taken}
-use Rattle.p2p_log_rules.proofs.Connections.{HalfParts, half_parts, is_live, live_connection-kept, ends_none-reply}
+use Rattle.p2p_log_rules.proofs.Connections.{runs_is, HalfParts, half_parts, is_live, live_connection-kept, ends_none-reply}
 use Rattle.p2p_log_rules.specs.Spawning.{connections_of}
 use Rattle.p2p_log_rules.proofs.Spawning.{connections_of-unmade}
 use Rattle.p2p_log_laws.specs.Leading.{ConnectionsAreOne}
@@ -51,7 +53,7 @@ use Rattle.p2p_net.proofs.EachPart.{with_parts, each_part, not_among-links}
 use Rattle.p2p_net.proofs.Receivers.{receives_nothing}
 use Rattle.p2p_net.proofs.Performing.{asked, Performs, taken-none}
 use Rattle.p2p_net.proofs.Routers.{HearsOfBegun-told, IsStranger-unbegun}
-use Rattle.p2p_net.proofs.RouterAnswers.{half_steps, step_begins, step_answers, step_beside, step_drops, named_parts}
+use Rattle.p2p_net.proofs.RouterAnswers.{half_steps, step_begins, step_beside, step_drops, named_parts}
 
 -- one that has not begun does not run
 idle_stage : (o : Option Stage) → is_some o ≡ false → runs_on o ≡ false
@@ -84,7 +86,7 @@ module _ (configs : List Config) (log : List Entry) (at seed conn n : ℕ) (half
   routes : RouterStands configs log n x.router
   routes = s.each place.router
 
-  not_running : is_running log n conn ≡ false
+  not_running : has_run log n conn ≡ false
   not_running = sym (connects.running conn) ∙ idle_stage (table.at x.connections.stages conn) (connects.begun conn ∙ idle)
 
   row_is : row configs log at seed (act.SendStep conn n) ≡ due
@@ -121,12 +123,8 @@ module _ (configs : List Config) (log : List Entry) (at seed conn n : ℕ) (half
 
   connections_now : ConnectionsStand configs (log ++ e ∷ []) n (begun_with conn x.connections)
   connections_now =
-      connections_begun configs log e n conn x.connections connects (λ c. subst (λ d. PingsWhenDue configs log d n c) (sym effect_is) (pings_by configs log n x.connections connects ev c)) (λ c. live_connection-kept log e n c (ends_none-reply e n c refl) (connections_of-unmade log e n refl c)) not_running (λ c. step_begins n conn c e refl refl)
-      (λ c. step_answers log e n conn c refl ∙ nothing (c == conn) (taken log e) (taken-none log e refl)) (receives_nothing configs log e n (taken-none log e refl) (λ c. beside (queue.Held n c) refl refl)) (λ c. beside (queue.Ready n c) refl refl)
-    where
-      nothing : (b : Bool) (items : List Item) → items ≡ [] → cond b (map is_answer items) [] ≡ []
-      nothing true items none = ap (map is_answer) none
-      nothing false items none = refl
+      connections_begun configs log e n conn x.connections connects (λ c. subst (λ d. PingsWhenDue configs log d n c) (sym effect_is) (pings_by configs log n x.connections connects ev c)) (λ c. live_connection-kept log e n c (ends_none-reply log e n c refl) (connections_of-unmade log e n refl c)) not_running (λ c. step_begins log n conn c e refl refl)
+      (λ c. runs_is log e n c ∙ (ap (λ items. begins n c log e && list_any is_answer items) (taken-none log e refl) ∙ and_false (begins n c log e))) (receives_nothing configs log e n (taken-none log e refl) (λ c. beside (queue.Held n c) refl refl)) (λ c. beside (queue.Ready n c) refl refl)
 
   size_is : x.config.mailbox_size ≡ mailbox_size_at configs x.router.number
   size_is = sym (ap (λ (o : Option Config). elim o [ None ↦ 0 | Some c ↦ c.mailbox_size ]) s.own.config) ∙ ap (mailbox_size_at configs) (sym routes.number)
@@ -152,7 +150,7 @@ module _ (configs : List Config) (log : List Entry) (at seed conn n : ℕ) (half
             (subst (IsStranger x.router conn) key_is (IsStranger-unbegun log n conn parts.connection x.router routes.hears one alive idle))
             (step_beside configs log e x.router.number conn n refl refl) (subst (λ k. IsReadied e k 1 conn half.peer) (sym routes.number) readied);
         hears = HearsOfBegun-told log e n conn parts.connection x.router.peers y.router.peers routes.hears (λ k. subst (λ p. tree.get nat_cmp y.router.peers k ≡ cond (is_eq (nat_cmp conn k)) (Some p) (tree.get nat_cmp x.router.peers k)) (sym key_is) (calls.peers k)) alive
-            (λ c. step_begins n conn c e refl refl) (λ c. ends_none-reply e n c refl) (λ c. connections_of-unmade log e n refl c);
+            (λ c. step_begins log n conn c e refl refl) (λ c. ends_none-reply log e n c refl) (λ c. connections_of-unmade log e n refl c);
       }
 
   pub begin_performs : Performs configs log ev n y links r

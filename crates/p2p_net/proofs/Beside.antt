@@ -10,22 +10,24 @@ use Rattle.p2p_log.specs.declared.entry.Entry.{Entry}
 use Rattle.p2p_log.specs.declared.event.Act.TheVariants as act
 use Rattle.p2p_log.specs.QueueCode.{same_queue}
 use Rattle.p2p_log.specs.Lines.{line, live, stands_in}
-use Rattle.p2p_log_rules.specs.Connections.{half_at, steps_sender, is_done, is_end}
+use Rattle.p2p_log_rules.specs.Connections.{half_at, is_end}
 use Rattle.p2p_log_rules.specs.Dropping.{half_end}
-use Rattle.p2p_log_rules.specs.Facts.{starts, registers_at, steps_router, taken}
+use Rattle.p2p_log_rules.specs.Facts.{starts, registers_at}
 use Rattle.p2p_log_rules.specs.Spawning.{steps_spawner}
 use Rattle.p2p_log_rules.specs.Tracking.{steps_tracker}
-use Rattle.p2p_log_rules.specs.TrackerRows.{answers}
-use Rattle.p2p_log_rules.proofs.Connections.{ends_none-reply}
+use Rattle.p2p_log_rules.specs.TrackerRows.{takes_answer}
+use Rattle.p2p_log_rules.proofs.Connections.{begins_act, ends_none-reply}
+use Rattle.p2p_log_rules.proofs.Families.{kinds_of, are_apart}
 use Rattle.p2p_log_rules.proofs.Spawning.{connections_of-unmade}
 use Rattle.p2p_net_router.specs.Names.{is_routers}
 use Rattle.p2p_net_router.specs.Stands.{IsBeside}
 use Rattle.p2p_net_router.specs.declared.router.Router.{Router}
 use Rattle.p2p_net_router.proofs.Beside.{stands_beside}
+use Rattle.p2p_net_router.proofs.Unrouted.{unrouted_apart}
 use Rattle.p2p_log_rules.proofs.Dropping.{all_of, drops_of-receive}
+use Rattle.p2p_log_rules.proofs.Handshakes.{handshake_kinds, handshakes_of-apart}
+use Rattle.p2p_log_rules.proofs.Routing.{route_kinds}
 use Rattle.p2p_net_links.proofs.Drops.{DropsNone}
-use Rattle.p2p_net_listener.specs.Stands.{is_of_listener}
-use Rattle.p2p_net_listener.proofs.Changes.{handshakes_unmoved}
 use Rattle.p2p_net_tracker.specs.Stands.{is_told, asks_of, TrackerStands}
 use Rattle.p2p_net_tracker.specs.declared.tracker.Tracker.{Tracker}
 use Rattle.p2p_net_tracker.proofs.Changes.{tracker_frame}
@@ -94,15 +96,15 @@ module _ (configs : List Config) (log : List Entry) (e : Entry) (n conn : ℕ) (
 
   received_beside : (m : ℕ) → IsBeside configs log e m
   received_beside m = record {
-    no_end = λ c. ends_none-reply e m c lives;
-    no_step = ap (λ a. cond (steps_router m a) (taken log e) []) acts;
+    no_end = λ c. ends_none-reply log e m c lives;
+    no_step = unrouted_apart log e m (ap (λ a. are_apart (kinds_of a) route_kinds) acts);
     no_channel = ap (registers_at configs m) acts;
     no_start = ap (starts m) acts;
   }
 
   received_hears : HearsTheSame log e n
   received_hears =
-      hears_kept log e n (λ c. ap (λ a. steps_sender n c a && is_done e.reply) acts) (λ c. ends_none-reply e n c lives)
+      hears_kept log e n (λ c. begins_act log e n c (act.RecvStep conn n) acts) (λ c. ends_none-reply log e n c lives)
       (λ c. connections_of-unmade log e n (ap (steps_spawner n) acts) c)
 
   module _ (same : (q : Queue) → is_beside q ≡ true → line (log ++ e ∷ []) q ≡ line log q) where
@@ -115,12 +117,12 @@ module _ (configs : List Config) (log : List Entry) (e : Entry) (n conn : ℕ) (
 
     pub received_tracker : (t : Tracker) → TrackerStands configs log n t → TrackerStands configs (log ++ e ∷ []) n t
     received_tracker t s = tracker_frame configs log e n t s (record {
-      no_end = λ c. ends_none-reply e n c lives;
+      no_end = λ c. ends_none-reply log e n c lives;
       no_step = ap (steps_tracker n) acts;
       no_question = ap (asks_of n) acts;
-      no_answer = λ d h. ap (λ a. answers d a e.reply) acts;
-      no_late_answer = λ d h. ap (λ a. answers d a e.reply) acts;
-      handshakes = handshakes_unmoved log e n (ap (is_of_listener n) acts);
+      no_answer = λ d h. ap (λ a. takes_answer d a e.reply) acts;
+      no_late_answer = λ d h. ap (λ a. takes_answer d a e.reply) acts;
+      handshakes = handshakes_of-apart log e n (ap (λ a. are_apart (kinds_of a) handshake_kinds) acts);
       mailbox = same (queue.Tracker n) refl;
       told = λ q own. same q (told_beside n q own);
     })

@@ -1,6 +1,6 @@
 -- A check, which keeps what its channel's quota admits, and the message that is sent to those.
 use Rattle.std.proofs.Common.{◌≡◌, ℕ, ◌≤◌, Bool, true, false, cond, List, [], ◌∷◌, ◌++◌, length, refl, ap, sym, subst, ◌∙◌, arith, append-nil, Option, Some, None}
-use Rattle.std.specs.Prelude.{◌==◌, filter, nat_le, nat_lt}
+use Rattle.std.specs.Prelude.{◌==◌, filter, nat_le, nat_lt, slice_get}
 use Rattle.std.specs.BTreeMap.{insert_entry}
 use Rattle.std.specs.Ordering.{nat_cmp}
 use Rattle.std.proofs.lemmas.Bool.Decides.{nat_tests}
@@ -18,13 +18,17 @@ use Rattle.p2p_log.specs.declared.event.Act.{Act}
 use Rattle.p2p_log.specs.declared.event.Act.TheVariants as act
 use Rattle.p2p_log.specs.Lines.{stays, stands_in, live, line}
 use Rattle.p2p_log.proofs.Lines.{filter_stays-nil}
+use Rattle.p2p_log_rules.proofs.Connections.{ends_untold}
 use Rattle.p2p_log_rules.specs.declared.row.Checked.{Checked}
 use Rattle.p2p_log_rules.specs.declared.row.Row.{Row}
 use Rattle.p2p_log_rules.specs.Admitting.{offered, keys_admitted, retry_moment}
-use Rattle.p2p_log_rules.specs.Checking.{checking_node, keys_checked, acted_checks, checked_at}
+use Rattle.p2p_log_rules.specs.Checking.{Check, check_of, admitted_at, checked_at}
 use Rattle.p2p_log_rules.specs.Frames.{frame_of}
-use Rattle.p2p_log_rules.specs.Facts.{events_of, latest_moment, is_up, with_begun, with_named}
+use Rattle.p2p_log_rules.specs.Facts.{events_of, latest_moment, is_up}
 use Rattle.p2p_log_rules.specs.Effect.{only, taking, takes_list, row, effect, entry_of, checked_row, sent_row, spent_row, router_capacity, limit_at, fitting_row}
+use Rattle.p2p_log_rules.specs.Told.{check_tells}
+use Rattle.p2p_log_rules.proofs.Checks.{checked_at-made, checked_at-unmade, checked_at-spent}
+use Rattle.p2p_log_rules.proofs.Sends.{Asks, sent_moments-apart, sent_moments-asked}
 use Rattle.p2p_log_laws.specs.Listed.{ListsAreCurrent}
 use Rattle.p2p_log_laws.proofs.Untouched.{line-untouched}
 use Rattle.p2p_net_router.specs.Holds.{after}
@@ -33,6 +37,7 @@ use Rattle.p2p_net_router.specs.declared.router.Router.{Router}
 use Rattle.p2p_net_router.specs.declared.telling.Telling.TheVariants as telling
 use Rattle.p2p_net_router.proofs.Aside.{line_is}
 use Rattle.p2p_net_router.proofs.Over.{over_gone, over_taking, sent_takes}
+use Rattle.p2p_net_router.proofs.Unrouted.{unrouted_apart}
 use Rattle.p2p_net_channels.specs.declared.channels.Channels.{Channels}
 use Rattle.p2p_net_channels.specs.Channels.{capacity_at}
 use Rattle.p2p_net_channels.specs.Senders.{keys_metered}
@@ -44,13 +49,14 @@ use Rattle.p2p_net_links.specs.declared.links.Links.{Links}
 use Rattle.p2p_net_queues.specs.Tables as table
 use Rattle.p2p_net.specs.Offering.{is_refused, listed, FollowsOn, SendsBy, NotesCheck, Checks, with_checks, SpendsCheck, SendsChecked}
 use Rattle.p2p_net.specs.Places as place
+use Rattle.p2p_net.specs.Places.{node_checking}
 use Rattle.p2p_net.specs.Stands.{RouterStands, NodeStands}
 use Rattle.p2p_net.specs.declared.node.Node.{Node}
 use Rattle.p2p_net.specs.declared.offers.Offered.{Offered}
 use Rattle.p2p_net.proofs.EachPart.{not_among}
-use Rattle.p2p_net.proofs.Messages.{asks_here, channels_unasked, IsOffered, is_offered, named, built}
+use Rattle.p2p_net.proofs.Messages.{channels_unasked, IsOffered, is_offered, named, built}
 use Rattle.p2p_net.proofs.Performing.{asked, Performs, effect-still}
-use Rattle.p2p_net.proofs.Receivers.{admits_apart}
+use Rattle.p2p_net.proofs.Receivers.{admits_apart, closes_apart, checking_is}
 use Rattle.p2p_net.proofs.Routers.{hears_aside, RouterStands-moved, RouterStands-idle}
 
 same_number : (n : ℕ) → (n == n) ≡ true
@@ -94,29 +100,22 @@ module _ (configs : List Config) (log : List Entry) (at seed n c : ℕ) (to : Re
   done : (ch : Channels) (router : Router) → r ≡ row configs log at seed a → y ≡ record x { channels = ch; router = router } → ChannelsStand configs (log ++ e ∷ []) n ch → RouterStands configs (log ++ e ∷ []) n router → Done
   done ch router = built configs log ev n x y l links r ch router s t kept (λ p out. not_among named p n n out) refl refl
 
-  -- what its reply makes of the checks that wait
-  checks_by_reply : (rep : Reply) → (row configs log at seed a).reply ≡ rep → (name : ℕ) → acted_checks n log a e.reply (checked_at log n) name ≡ with_begun (keys_checked c rep) (length log) (checked_at log n) name
-  unfolding effect
-  checks_by_reply rep is name =
-      ap (λ b. cond b (with_begun (keys_checked c e.reply) (length log) (checked_at log n) name) (checked_at log n name)) (same_number n)
-      ∙ ap (λ z. with_begun (keys_checked c z) (length log) (checked_at log n) name) is
-
   -- on a channel that is not registered
   gone : capacity_at x.channels c ≡ None → row configs log at seed a ≡ only reply.Gone → r ≡ only reply.Gone → y ≡ x → Done
   unfolding effect
   gone has is told same =
       let still = effect-still configs log ev reply.Gone is in
       done x.channels x.router (told ∙ sym is) same
-      (channels_unasked configs log e n c to x.channels chan refl (λ d. asks_here n c d to) (admits_apart configs log e n a refl (λ d. refl)) (λ d. line-untouched configs log ev (queue.Channel n d) refl refl refl)
-      (checks_by_reply reply.Gone (ap (λ (z : Row). z.reply) is)) (λ d. refl) has)
-      (RouterStands-idle configs log e n x.router (record { no_step = refl; no_channel = refl; no_start = refl; no_end = λ conn. refl }) (hears_aside log e n a refl refl) still.takes still.puts still.ends routes)
+      (channels_unasked configs log e n c to x.channels chan refl (sent_moments-asked log e n c to (Asks.checks refl)) (admits_apart configs log e n a refl (λ d. refl)) (λ d. line-untouched configs log ev (queue.Channel n d) refl refl refl)
+      (λ name. checked_at-unmade log e n name c n to refl (ap (λ (z : Row). check_tells n (length log) c z.reply) is)) (closes_apart log e n a refl refl) has)
+      (RouterStands-idle configs log e n x.router (record { no_step = unrouted_apart log e n refl; no_channel = refl; no_start = refl; no_end = λ conn. ends_untold log e n conn a refl refl }) (hears_aside log e n a refl refl) still.takes still.puts still.ends routes)
 
   -- the channels, whose quota was asked, with these checks
   channels_now : (m : List (ℕ × Checked)) → ((name : ℕ) → table.at m name ≡ checked_at (log ++ e ∷ []) n name) → ChannelsStand configs (log ++ e ∷ []) n (record (keys_metered c keys at x.channels) { checks = m })
   unfolding effect
   channels_now m checks =
       channels_asked configs log e n x.channels m chan refl (admits_apart configs log e n a refl (λ d. refl)) (λ d. line-untouched configs log ev (queue.Channel n d) refl refl refl)
-      checks (λ d. refl) c at to (λ d. asks_here n c d to) refl late
+      checks (closes_apart log e n a refl refl) c at to (sent_moments-asked log e n c to (Asks.checks refl)) refl late
 
   -- the router, of which at most a list was taken
   router_now : (rep : Reply) (new : Router) → row configs log at seed a ≡ taking names (only rep) → StandsOver configs log new (filter (stays names) (live log))
@@ -125,7 +124,7 @@ module _ (configs : List Config) (log : List Entry) (at seed n c : ℕ) (to : Re
   router_now rep new is over number peers =
       RouterStands-moved configs log e n x.router new routes (hears_aside log e n a refl refl)
       (subst (λ (z : Row). StandsFor configs (log ++ entry_of ev z ∷ []) new) (sym is)
-      (over_gone configs log (entry_of ev (taking names (only rep))) new names over (record { no_step = refl; no_channel = refl; no_start = refl; no_end = λ conn. refl }) (append-nil names) refl))
+      (over_gone configs log (entry_of ev (taking names (only rep))) new names over (record { no_step = unrouted_apart log (entry_of ev (taking names (only rep))) new.number refl; no_channel = refl; no_start = refl; no_end = λ conn. ends_untold log (entry_of ev (taking names (only rep))) new.number conn a refl refl }) (append-nil names) refl))
       number peers
 
   module _ (mid : Node) (o : Offered) (row_now : Row) (h : IsOffered configs log n c at to x mid o) (is : r ≡ listed o.list row_now) where
@@ -146,7 +145,7 @@ module _ (configs : List Config) (log : List Entry) (at seed n c : ℕ) (to : Re
         (d.1
         ∙ (ap (λ z. record mid { channels = record mid.channels { checks = insert_entry nat_cmp mid.channels.checks (length log) (record { channel = c; keys = z }) } }) (sym same)
         ∙ ap (λ (z : Node). record z { channels = record z.channels { checks = insert_entry nat_cmp z.channels.checks (length log) checked } }) h.mid_is))
-        (channels_now m (checks_begun log e n x.channels.checks chan.checks (length log) checked (checks_by_reply (reply.Checked ks) (ap (λ (z : Row). z.reply) due))))
+        (channels_now m (checks_begun log e n x.channels.checks chan.checks (length log) checked (λ name. checked_at-made log e n name c n to refl ks (ap (λ (z : Row). z.reply) due) (same_number n))))
         (router_mid (reply.Checked ks) due)
 
     -- none is
@@ -154,7 +153,7 @@ module _ (configs : List Config) (log : List Entry) (at seed n c : ℕ) (to : Re
     unfolding effect
     refused due d =
         done (keys_metered c keys at x.channels) mid.router (row_listed (only (reply.Retry retry)) (d.0 ∙ ap (λ z. only (reply.Retry z)) h.retry) ∙ sym due) (d.1 ∙ h.mid_is)
-        (channels_now x.channels.checks (checks_kept log e n x.channels.checks chan.checks (checks_by_reply (reply.Retry retry) (ap (λ (z : Row). z.reply) due))))
+        (channels_now x.channels.checks (checks_kept log e n x.channels.checks chan.checks (λ name. checked_at-unmade log e n name c n to refl (ap (λ (z : Row). check_tells n (length log) c z.reply) due))))
         (router_mid (reply.Retry retry) due)
 
     by_keys : (asks ks : List Key) → row configs log at seed a ≡ taking names (checked_row asks ks retry) → ks ≡ o.admitted → NotesCheck (is_refused asks ks) (length log) c o mid y row_now → Done
@@ -178,7 +177,7 @@ module _ (configs : List Config) (log : List Entry) (at seed n c : ℕ) (to : Re
 
 -- ---- a message to those whom a check admitted
 
-module _ (configs : List Config) (log : List Entry) (at seed check : ℕ) (bytes : List ℕ) (priority : Bool) (x y : Node) (l links : Links) (r : Row) (s : NodeStands configs log (checking_node log check) x) (t : LinksStand configs log l)
+module _ (configs : List Config) (log : List Entry) (at seed check : ℕ) (bytes : List ℕ) (priority : Bool) (x y : Node) (l links : Links) (r : Row) (s : NodeStands configs log (node_checking (slice_get log check)) x) (t : LinksStand configs log l)
     (kept : links ≡ l) where
   abbrev spends : Act
   spends = act.SendChecked bytes check priority
@@ -187,7 +186,7 @@ module _ (configs : List Config) (log : List Entry) (at seed check : ℕ) (bytes
   spent = asked at seed spends
 
   abbrev n : ℕ
-  n = checking_node log check
+  n = node_checking (slice_get log check)
 
   abbrev entry : Entry
   entry = effect configs log spent
@@ -213,13 +212,13 @@ module _ (configs : List Config) (log : List Entry) (at seed check : ℕ) (bytes
     unfolding effect
     checks_then =
         checks_changed log entry n x.channels.checks chan_then.checks check None left gone
-        (λ name. ap (λ b. cond b (with_named check None (checked_at log n) name) (checked_at log n name)) (same_number n))
+        (λ name. checked_at-spent log entry n name bytes check priority refl)
 
     channels_then : ChannelsStand configs (log ++ entry ∷ []) n (record x.channels { checks = left })
     unfolding effect
     channels_then =
         channels_spent configs log entry n x.channels left chan_then refl (admits_apart configs log entry n spends refl (λ d. refl)) (λ d. line-untouched configs log spent (queue.Channel n d) refl refl refl)
-        checks_then (λ d. refl) (λ d. refl)
+        checks_then (closes_apart log entry n spends refl refl) (λ d k. sent_moments-apart log entry n d k refl)
 
     -- nothing is handed to the router
     unsent : (rep : Reply) → row configs log at seed spends ≡ only rep → r ≡ only rep → y ≡ mid → Performs configs log spent n y links r
@@ -227,7 +226,7 @@ module _ (configs : List Config) (log : List Entry) (at seed check : ℕ) (bytes
     unsent rep due told same =
         let still = effect-still configs log spent rep due in
         done_with (record x.channels { checks = left }) x.router (told ∙ sym due) same channels_then
-        (RouterStands-idle configs log entry n x.router (record { no_step = refl; no_channel = refl; no_start = refl; no_end = λ conn. refl }) (hears_aside log entry n spends refl refl) still.takes still.puts still.ends routes_then)
+        (RouterStands-idle configs log entry n x.router (record { no_step = unrouted_apart log entry n refl; no_channel = refl; no_start = refl; no_end = λ conn. ends_untold log entry n conn spends refl refl }) (hears_aside log entry n spends refl refl) still.takes still.puts still.ends routes_then)
 
     module _ (c : Checked) where
       abbrev accepted : Reply
@@ -270,15 +269,25 @@ module _ (configs : List Config) (log : List Entry) (at seed check : ℕ) (bytes
           done_with (record x.channels { checks = left }) y.router (row_is ∙ sym due_now) d.0 channels_then
           (RouterStands-moved configs log entry n x.router y.router routes_then (hears_aside log entry n spends refl refl)
           (subst (λ (z : Row). StandsFor configs (log ++ entry_of spent z ∷ []) y.router) (same_row ∙ sym due_now)
-          (over_taking configs log spent y.router [] handed over_now (record { no_step = refl; no_channel = refl; no_start = refl; no_end = λ conn. refl }) takes))
+          (over_taking configs log spent y.router [] handed over_now (record { no_step = unrouted_apart log (entry_of spent (taking [] handed)) y.router.number refl; no_channel = refl; no_start = refl; no_end = λ conn. ends_untold log (entry_of spent (taking [] handed)) y.router.number conn spends refl refl }) takes))
           (ap (λ (z : Router). z.number) calls.rest) (ap (λ (z : Router). z.peers) calls.rest))
 
-  by_check : (o : Option Checked) → table.at x.channels.checks check ≡ o → (left : List (ℕ × Checked)) → table.AreBut check None x.channels.checks left → SpendsCheck o (length log) priority bytes (with_checks left x) y r
-      → Performs configs log spent n y links r
+  -- what the node has of the check, by the log
+  kept_is : (o : Option Check) → check_of log check ≡ o → admitted_at n o ≡ elim o [ None ↦ None | Some c ↦ Some (record { channel = c.channel; keys = c.keys }) ]
+  kept_is None is = refl
+  kept_is (Some c) is = ap (λ b. cond b (Some (record { channel = c.channel; keys = c.keys })) None) (ap (λ m. m == n) (sym (checking_is log check c is)) ∙ same_number n)
+
+  by_check : (o : Option Check) → check_of log check ≡ o → (left : List (ℕ × Checked)) → table.AreBut check None x.channels.checks left
+      → SpendsCheck (elim o [ None ↦ None | Some c ↦ Some (record { channel = c.channel; keys = c.keys }) ]) (length log) priority bytes (with_checks left x) y r → Performs configs log spent n y links r
   unfolding row
-  by_check None has left gone d = unsent left gone reply.Gone (ap (spent_row configs log bytes n priority) (sym (chan_then.checks check) ∙ has)) d.0 d.1
-  by_check (Some c) has left gone d =
-      by_size left gone c (nat_lt x.config.max_message_size (length bytes)) refl (ap (spent_row configs log bytes n priority) (sym (chan_then.checks check) ∙ has)) d
+  by_check None is left gone d = unsent left gone reply.Gone (ap (spent_row configs log bytes priority) is) d.0 d.1
+  by_check (Some c) is left gone d =
+      by_size left gone (record { channel = c.channel; keys = c.keys }) (nat_lt x.config.max_message_size (length bytes)) refl
+      (ap (spent_row configs log bytes priority) is
+      ∙ ap (λ m. spent_row configs log bytes priority (Some (record c { node = m }))) (sym (checking_is log check c is))) d
 
   pub send_checked_performs : SendsChecked (length log) check priority bytes x y r → Performs configs log spent n y links r
-  send_checked_performs d = by_check (table.at x.channels.checks check) refl d.left d.spent d.comes
+  send_checked_performs d =
+      by_check (check_of log check) refl d.left d.spent
+      (subst (λ o. SpendsCheck o (length log) priority bytes (with_checks d.left x) y r)
+      (chan_then.checks check ∙ kept_is (check_of log check) refl) d.comes)

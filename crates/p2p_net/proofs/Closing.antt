@@ -63,7 +63,7 @@ module _ (configs : List Config) (log : List Entry) (at seed n c : ℕ) where
   now_stand : (ch : Channels) → ChannelsStand configs log n ch → ChannelsStand configs (log ++ entry_of ev due ∷ []) n (closed_with c ch)
   now_stand ch s =
       channels_closed configs log (entry_of ev due) n c ch s refl refl
-      (admits_apart configs log (entry_of ev due) n (act.Close c n) refl (λ e. refl)) (sends_apart log (entry_of ev due) n (act.Close c n) refl refl)
+      (admits_apart configs log (entry_of ev due) n (act.Close c n) refl (λ e. refl)) (sends_apart log (entry_of ev due) n (act.Close c n) refl (refl, refl))
       (emptied_waits ch s)
 
   -- the row, by whether the channel has a reader

@@ -22,7 +22,7 @@ use Rattle.p2p_log.specs.QueueCode.{same_queue}
 use Rattle.p2p_log.specs.Lines.{line, name_of, placed, stands_in, ended_item}
 use Rattle.p2p_log_rules.specs.declared.row.Half.{Half}
 use Rattle.p2p_log_rules.specs.declared.row.Row.{Row}
-use Rattle.p2p_log_rules.specs.Connections.{live_half, is_running, is_end}
+use Rattle.p2p_log_rules.specs.Connections.{live_half, has_run, is_end}
 use Rattle.p2p_log_rules.specs.Ending.{end_row}
 use Rattle.p2p_log_rules.specs.Facts.{is_up, events_of, latest_moment}
 use Rattle.p2p_log_rules.specs.Metering.{pings, messages, holds, limit_at, admitted_by}
@@ -41,7 +41,7 @@ use Rattle.p2p_net_channels.specs.declared.arrival.Arriving.TheVariants as arriv
 use Rattle.p2p_net_channels.specs.declared.channels.Channels.{Channels}
 use Rattle.p2p_net_channels.specs.Arrivals.{arrival_in, held_arrival, held_item, delivered}
 use Rattle.p2p_net_channels.specs.Channels.{capacity_at, refusal, message_put, delivered_to, may_admit, metered}
-use Rattle.p2p_net_channels.specs.Stands.{ChannelsStand, SendsNone}
+use Rattle.p2p_net_channels.specs.Stands.{ChannelsStand, SendsNone, ClosesNone}
 use Rattle.p2p_net_connections.specs.Connections.{may_ping, ping_metered}
 use Rattle.p2p_net_connections.specs.Stands.{ConnectionsStand, BeginsNone, SpawnsNone}
 use Rattle.p2p_net_connections.specs.declared.connections.Connections.{Connections}
@@ -60,7 +60,7 @@ use Rattle.p2p_net.proofs.Beside.{is_beside, beside_link, beside_from, beside_he
 use Rattle.p2p_net.proofs.EachPart.{with_parts, each_part, not_among-links}
 use Rattle.p2p_net.proofs.Frames.{begins_unsent}
 use Rattle.p2p_net.proofs.Performing.{asked, Performs, stays_performs, IsStill, line-still, links_still}
-use Rattle.p2p_net.proofs.Receivers.{sends_apart}
+use Rattle.p2p_net.proofs.Receivers.{sends_apart, closes_apart}
 use Rattle.p2p_net.proofs.Taking.{stepped_as, link_channel, link_held, channel_link, held_link, Takes, takes_first, line_off, line_aside, not-not, other-none, passed_holds, passed_lives, passed_takes, passed_ends, passed_aside, held_aside, admits_of, admits_idle, message_channels, other_channels, delivered_waits, unheld_holds, held_holds}
 
 -- the parts that a step names
@@ -132,10 +132,13 @@ module _ (configs : List Config) (log : List Entry) (at seed conn n : ℕ) (half
   begins_none due = begins_unsent log (made due) n (act.RecvStep conn n) refl (λ c. refl)
 
   spawns_none : (due : Row) → is_end due.reply ≡ false → SpawnsNone log (made due) n
-  spawns_none due lives c = live_connection-kept log (made due) n c (ends_none-reply (made due) n c lives) (connections_of-unmade log (made due) n refl c)
+  spawns_none due lives c = live_connection-kept log (made due) n c (ends_none-reply log (made due) n c lives) (connections_of-unmade log (made due) n refl c)
 
   sends_none : (due : Row) → SendsNone log (made due) n
-  sends_none due = sends_apart log (made due) n (act.RecvStep conn n) refl refl
+  sends_none due = sends_apart log (made due) n (act.RecvStep conn n) refl (refl, refl)
+
+  closes_none : (due : Row) → ClosesNone log (made due) n
+  closes_none due = closes_apart log (made due) n (act.RecvStep conn n) refl refl
 
   -- ---- what its quota admits
 
@@ -173,23 +176,23 @@ module _ (configs : List Config) (log : List Entry) (at seed conn n : ℕ) (half
       → ChannelsStand configs (log ++ made (delivered why n from m (taken_row (name_of f))) ∷ []) n (delivered_to why (length log) 0 n from m (metered m.channel conn at x.channels))
   passed_channels p f fs (Some why) from m h apart says =
       let due = delivered (Some why) n from m (taken_row (name_of f)) in
-      message_channels configs log n conn at (made due) late x.channels chan refl (sends_none due) (λ q. refl) m.channel x.channels.waiting (messages_admitted due refl p f fs m true h refl says) refl
-      (delivered_waits configs log n conn at (made due) late x.channels chan refl (sends_none due) (λ q. refl) p f fs (Some why) from m (takes_first log (made due) (limit_at configs n) p f fs (messages m.channel) h) apart refl)
+      message_channels configs log n conn at (made due) late x.channels chan refl (sends_none due) (closes_none due) m.channel x.channels.waiting (messages_admitted due refl p f fs m true h refl says) refl
+      (delivered_waits configs log n conn at (made due) late x.channels chan refl (sends_none due) (closes_none due) p f fs (Some why) from m (takes_first log (made due) (limit_at configs n) p f fs (messages m.channel) h) apart refl)
   passed_channels p f fs None from m h apart says =
       let due = delivered None n from m (taken_row (name_of f)) in
-      message_channels configs log n conn at (made due) late x.channels chan refl (sends_none due) (λ q. refl) m.channel (pushed_at x.channels.waiting m.channel (message_put (length log) 0 n from m)) (messages_admitted due refl p f fs m true h refl says) refl
-      (delivered_waits configs log n conn at (made due) late x.channels chan refl (sends_none due) (λ q. refl) p f fs None from m (takes_first log (made due) (limit_at configs n) p f fs (messages m.channel) h) apart refl)
+      message_channels configs log n conn at (made due) late x.channels chan refl (sends_none due) (closes_none due) m.channel (pushed_at x.channels.waiting m.channel (message_put (length log) 0 n from m)) (messages_admitted due refl p f fs m true h refl says) refl
+      (delivered_waits configs log n conn at (made due) late x.channels chan refl (sends_none due) (closes_none due) p f fs None from m (takes_first log (made due) (limit_at configs n) p f fs (messages m.channel) h) apart refl)
 
   -- the channels once a message was asked of, and no channel changed
   asked_channels : (due : Row) (c : ℕ) → ((d q : ℕ) → admitted_by (limit_at configs n) n d (messages q) log (made due) ≡ cond ((d == conn) && ((q == c) && may_admit x.channels c conn at)) (at ∷ []) [])
       → ((q : ℕ) → line (log ++ made due ∷ []) (queue.Channel n q) ≡ line log (queue.Channel n q)) → ChannelsStand configs (log ++ made due ∷ []) n (metered c conn at x.channels)
   asked_channels due c admits lines =
-      message_channels configs log n conn at (made due) late x.channels chan refl (sends_none due) (λ q. refl) c x.channels.waiting admits refl (holds_frame (queue.Channel n) log (made due) x.channels.waiting chan.waits lines)
+      message_channels configs log n conn at (made due) late x.channels chan refl (sends_none due) (closes_none due) c x.channels.waiting admits refl (holds_frame (queue.Channel n) log (made due) x.channels.waiting chan.waits lines)
 
   -- the channels beside a ping
   beside_ping : (due : Row) → ((d q : ℕ) → admitted_by (limit_at configs n) n d (messages q) log (made due) ≡ []) → ((q : ℕ) → line (log ++ made due ∷ []) (queue.Channel n q) ≡ line log (queue.Channel n q))
       → ChannelsStand configs (log ++ made due ∷ []) n x.channels
-  beside_ping due none lines = other_channels configs log n conn at (made due) late x.channels chan refl (sends_none due) (λ q. refl) none lines
+  beside_ping due none lines = other_channels configs log n conn at (made due) late x.channels chan refl (sends_none due) (closes_none due) none lines
 
   -- the connections beside a message, by what is held then
   beside_message : (due : Row) → is_end due.reply ≡ false → (w : List (ℕ × List Envelope)) → ((d : ℕ) → admitted_by (limit_at configs n) n d pings log (made due) ≡ []) → ((c : ℕ) → line (log ++ made due ∷ []) (queue.Ready n c) ≡ line log (queue.Ready n c))
@@ -204,7 +207,7 @@ module _ (configs : List Config) (log : List Entry) (at seed conn n : ℕ) (half
 
   -- ---- off the link
 
-  module _ (up : is_up log n ≡ true) (has : live_half log n conn ≡ Some half) (running : is_running log n conn ≡ true) (f : Envelope) (fs : List Envelope) (first : line log (queue.Link half.link (other_side half.writes)) ≡ f ∷ fs) where
+  module _ (up : is_up log n ≡ true) (has : live_half log n conn ≡ Some half) (running : has_run log n conn ≡ true) (f : Envelope) (fs : List Envelope) (first : line log (queue.Link half.link (other_side half.writes)) ≡ f ∷ fs) where
     abbrev p : Queue
     p = queue.Link half.link (other_side half.writes)
 
@@ -352,7 +355,7 @@ module _ (configs : List Config) (log : List Entry) (at seed conn n : ℕ) (half
 
   -- ---- what is held
 
-  module _ (up : is_up log n ≡ true) (has : live_half log n conn ≡ Some half) (running : is_running log n conn ≡ true) (kept : links ≡ l) (f : Envelope) (fs : List Envelope) (first : line log (queue.Held n conn) ≡ f ∷ fs) where
+  module _ (up : is_up log n ≡ true) (has : live_half log n conn ≡ Some half) (running : has_run log n conn ≡ true) (kept : links ≡ l) (f : Envelope) (fs : List Envelope) (first : line log (queue.Held n conn) ≡ f ∷ fs) where
     abbrev h : Queue
     h = queue.Held n conn
 

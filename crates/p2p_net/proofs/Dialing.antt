@@ -32,13 +32,18 @@ use Rattle.p2p_log.specs.declared.event.Event.{Event}
 use Rattle.p2p_log.specs.declared.event.Act.TheVariants as act
 use Rattle.p2p_log.specs.Lines.{name_of, goes, line, live, stays, stands_in}
 use Rattle.p2p_log.proofs.Queues.{same_queue-refl}
+use Rattle.p2p_log_rules.proofs.Connections.{ends_untold}
 use Rattle.p2p_log_rules.specs.declared.row.Row.{Row}
 use Rattle.p2p_log_rules.specs.Facts.{is_up, taken}
 use Rattle.p2p_log_rules.specs.Effect.{only, row, effect, entry_of}
-use Rattle.p2p_log_rules.specs.Attempting.{DialRules, dial_rules_at}
-use Rattle.p2p_log_rules.proofs.Attempts.{begun_of}
-use Rattle.p2p_log_rules.proofs.Dialing.{stepped_dials, works, dials_of-stepped}
-use Rattle.p2p_log_rules.specs.Dialing.{Pace, pace_at, next_deadline, Dials, dials_of, in_drawn_order, last_key, without_last, dial_puts, dials_row, answered_row, due_row, dialer_turn}
+use Rattle.p2p_log_rules.specs.Attempting.{Attempt, DialRules, dial_rules_at}
+use Rattle.p2p_log_rules.specs.Tellings.{last_or}
+use Rattle.p2p_log_rules.specs.Told.{asks_list, answer_tells, ask_tells, told}
+use Rattle.p2p_log_rules.proofs.Attempts.{attempt_told}
+use Rattle.p2p_log_rules.proofs.AttemptTellings.{granted_told, attempts_of-new}
+use Rattle.p2p_log_rules.proofs.Dialing.{dials_told, list_told, dial_told, next_told, due_told, asked_told, dials_of-stepped}
+use Rattle.p2p_log_rules.specs.Dialing.{Pace, pace_at, next_deadline, Dials, dials_of, in_drawn_order, last_key, without_last, dial_puts, dials_row, answer_taken_row, due_row, dialer_turn}
+use Rattle.p2p_log_rules.proofs.Handshakes.{handshakes_of-apart}
 use Rattle.p2p_log_laws.proofs.Untouched.{line-untouched}
 use Rattle.p2p_net_queues.proofs.Going.{put_in}
 use Rattle.p2p_net_dialer.specs.Dialing as dialing
@@ -50,6 +55,7 @@ use Rattle.p2p_net_dialer.proofs.Changes.{attempts_with, IsBegun, begun_is, time
 use Rattle.p2p_net_links.specs.Stands.{LinksStand}
 use Rattle.p2p_net_links.specs.declared.links.Links.{Links}
 use Rattle.p2p_net_tracker.specs.Dialed.{taken_names, asked_puts, names_asked, dialed_row}
+use Rattle.p2p_net_tracker.specs.GivenBack.{IsGivenBack}
 use Rattle.p2p_net_tracker.specs.Naming.{dialed_grant}
 use Rattle.p2p_net_queues.specs.Matching.{Match}
 use Rattle.p2p_net_tracker.specs.Stands.{is_told, IsMessage, IsAnswer, TrackerStands}
@@ -85,10 +91,10 @@ abbrev desk_with : Option Ask → Desk Key → Desk Key
 desk_with None d = d
 desk_with (Some a) d = with_message d a.1
 
--- the item is of the message
+-- the item is of the message, which gives nothing back
 abbrev IsAsked : Tickets → List Entry → Option Ask → Type 0
 IsAsked tickets log None = Unit {0}
-IsAsked tickets log (Some a) = IsMessage tickets log a.0 a.1
+IsAsked tickets log (Some a) = IsMessage tickets log a.0 a.1 × ((l : List Entry) (k : ℕ) → IsGivenBack l k a.1)
 
 -- where it waits
 abbrev waits_in : ℕ → ℕ → Option Ask → List Envelope
@@ -163,6 +169,17 @@ module _ (configs : List Config) (log : List Entry) (moment seed n : ℕ) (x y :
 
   -- ---- a step that did something
 
+  -- what is told of the dialer, by what it took and put
+  abbrev after : Pace → List Item → List (Queue × Item) → Dials
+  after pace items puts = dials_told pace n (ask_tells n moment items puts) (dials_told pace n (answer_tells n ds.asked_at k moment seed items) ds)
+
+  abbrev IsNext : List Item → List (Queue × Item) → Dials → Type 0
+  IsNext items puts next = after (pace_of g) items puts ≡ next
+
+  -- the attempt that begins
+  abbrev begun_by : List Item → Option Attempt
+  begun_by items = attempt_told rules n k (answer_tells n (last_or 0 (asks_list n) (told log)) k moment seed items) None
+
   abbrev due : Bool → Option Ask → Row
   due took o = dialed_row answers n took (item_in o)
 
@@ -209,7 +226,12 @@ module _ (configs : List Config) (log : List Entry) (moment seed n : ℕ) (x y :
 
     each_is : (o : Option Ask) → IsAsked x.tracker.tickets log o → Match (λ z w. IsMessage x.tracker.tickets log z.item w) (waits_in k n o) (message_in o)
     each_is None h = tt
-    each_is (Some a) h = (h, tt)
+    each_is (Some a) h = (h.0, tt)
+
+    -- nothing is given back
+    given_is : (o : Option Ask) → IsAsked x.tracker.tickets log o → (l : List Entry) → Match (λ z w. IsGivenBack l z.entry w) (waits_in k n o) (message_in o)
+    given_is None h l = tt
+    given_is (Some a) h l = (h.1 l k, tt)
 
     put_is : (o : Option Ask) → put_in log (e took o) (queue.Tracker n) ≡ waits_in k n o
     put_is None = refl
@@ -228,10 +250,10 @@ module _ (configs : List Config) (log : List Entry) (moment seed n : ℕ) (x y :
         tracker_dialed configs log (e took o) n x.tracker y.tracker took (waits_in k n o) (message_in o) tracked
         (record {
           no_step = refl;
-          no_end = λ conn. refl;
+          no_end = λ conn. ends_untold log (e took o) n conn (e took o).event.act refl refl;
           no_question = refl;
           no_answer = λ d. refl;
-          no_admission = refl;
+          no_admission = handshakes_of-apart log (e took o) n refl;
           rest =
               tracks.1.1
               ∙ (ap (λ w. record x.tracker { mailbox = w; told = y.tracker.told; names = x.tracker.names ++ names_asked k (item_in o) }) mailbox
@@ -243,25 +265,23 @@ module _ (configs : List Config) (log : List Entry) (moment seed n : ℕ) (x y :
           updates = ap (λ (d : Desk Key). length d.updates) desk ∙ updates_are o;
           sets = ap (λ (d : Desk Key). length d.sets) desk ∙ sets_are o;
           each = each_is o asks;
+          given = given_is o asks (log ++ e took o ∷ []);
           waits = mailbox_moved log (e took o) n took (waits_in k n o) left (put_is o) (quiet_is o);
           lines = told_moved log (e took o) n took (waits_in k n o) left (put_is o) (quiet_is o);
           answered = answered;
           told = tracks.1.0;
         })
 
-    -- and where the dialer comes to this
-    moved : (items : List Item) (begun : Option (Attempting Key)) → row configs log moment seed (act.Dialer n) ≡ due took o → taken log (e took o) ≡ items
-        → y.dialing.actor ≡ Some (actor_of g (stepped_dials (pace_of g) moment seed items (asked_puts n (item_in o)) ds)) → IsBegun g k begun (begun_of rules.timeout moment items) → y.dialing.attempts ≡ attempts_with begun k x.dialing.attempts
-        → works items (asked_puts n (item_in o)) ≡ true → Performs configs log ev n y ls r
-    moved items begun row_is items_is actor new attempts did =
+    -- and where the dialer comes to this by what is told
+    moved : (items : List Item) (begun : Option (Attempting Key)) (next : Dials) → row configs log moment seed (act.Dialer n) ≡ due took o → taken log (e took o) ≡ items → IsNext items (asked_puts n (item_in o)) next
+        → y.dialing.actor ≡ Some (actor_of g next) → IsBegun g k begun (begun_by items) → y.dialing.attempts ≡ attempts_with begun k x.dialing.attempts → Performs configs log ev n y ls r
+    moved items begun next row_is items_is comes actor new attempts =
         let same = effect_is (due took o) row_is in
         let dialer_is : DialerStands configs (log ++ e took o ∷ []) n y.dialing =
-        dialer_stepped configs log (e took o) n x.dialing y.dialing begun (stepped_dials (pace_of g) moment seed items (asked_puts n (item_in o)) ds) dialed_before refl up
-        (dials_of-stepped configs log (e took o) n refl (ap (λ i. works i (asked_puts n (item_in o))) items_is ∙ did)
-        ∙ (ap (λ i. stepped_dials (pace_at configs n) moment seed i (asked_puts n (item_in o)) ds) items_is
-        ∙ ap (λ p. stepped_dials p moment seed items (asked_puts n (item_in o)) ds) (pace_is configs n)))
+        dialer_stepped configs log (e took o) n x.dialing y.dialing begun next dialed_before refl up
+        (dials_of-stepped configs log (e took o) n refl ∙ (ap (λ i. after (pace_at configs n) i (asked_puts n (item_in o))) items_is ∙ (ap (λ p. after p items (asked_puts n (item_in o))) (pace_is configs n) ∙ comes)))
         actor
-        (subst (λ i. IsBegun g k begun (begun_of rules.timeout moment i)) (sym items_is) new) attempts
+        (subst (IsBegun g k begun) (sym (attempts_of-new configs log (e took o) n refl ∙ ap begun_by items_is)) new) attempts
         (λ j. subst (λ (d : Entry). line (log ++ d ∷ []) (queue.Attempt n j) ≡ line log (queue.Attempt n j)) (sym same) (line-untouched configs log ev (queue.Attempt n j) refl refl refl))
         in
         record {
@@ -311,23 +331,23 @@ module _ (configs : List Config) (log : List Entry) (moment seed n : ℕ) (x y :
       → way ≡ record m { desk = way.desk; dialer = way.dialer } → row configs log moment seed (act.Dialer n) ≡ record { reply = reply.Ok; takes = taken_names took answers; puts = dial_puts n o; ends = [] }
       → ((a : Option Ask) → taken log (e took a) ≡ items)
       → ((a : Option Ask) (p : Queue) → filter (stands_in p) (filter (stays (goes (e took a))) (live log)) ≡ cond (is_taken_of took n p) (drop 1 (line log p)) (line log p))
-      → works items (dial_puts n o) ≡ true → stepped_dials (pace_of g) moment seed items (dial_puts n o) ds ≡ dials_after o d → begun_of rules.timeout moment items ≡ None → TurnsTo (turns.asks_for o inp (actor_of g d) way) what → Tracks what → Performs configs log ev n y ls r
-  asks_next took inp items d way None what is_taken desk answered rest_of row_is items_are left did next none h tracks =
+      → IsNext items (dial_puts n o) (dials_after o d) → begun_by items ≡ None → TurnsTo (turns.asks_for o inp (actor_of g d) way) what → Tracks what → Performs configs log ev n y ls r
+  asks_next took inp items d way None what is_taken desk answered rest_of row_is items_are left next none h tracks =
       let it : Tracks (Some (record { took = took; asked = None })) = subst (λ b. Tracks (Some (record { took = b; asked = None }))) is_taken (subst Tracks h.0 tracks) in
       moved took None tt it (ap (λ (w : Mailbox Key). w.desk) h.1.1 ∙ desk) (ap (λ (w : Mailbox Key). w.dialer) h.1.1 ∙ answered)
-      (h.1.1 ∙ (rest_of ∙ ap (λ (w : Mailbox Key). record m { desk = w.desk; dialer = w.dialer }) (sym h.1.1))) (left None) items None row_is (items_are None)
-      (actor_now (actor_of g (record d { is_asking = false })) x.dialing.attempts h.1.0 ∙ ap (λ (w : Dials). Some (actor_of g w)) (sym next))
-      (subst (IsBegun g k None) (sym none) tt) (attempts_now (actor_of g (record d { is_asking = false })) x.dialing.attempts h.1.0) did
-  asks_next took inp items d way (Some key) what is_taken desk answered rest_of row_is items_are left did next none h tracks =
+      (h.1.1 ∙ (rest_of ∙ ap (λ (w : Mailbox Key). record m { desk = w.desk; dialer = w.dialer }) (sym h.1.1))) (left None) items None (record d { is_asking = false }) row_is (items_are None) next
+      (actor_now (actor_of g (record d { is_asking = false })) x.dialing.attempts h.1.0)
+      (subst (IsBegun g k None) (sym none) tt) (attempts_now (actor_of g (record d { is_asking = false })) x.dialing.attempts h.1.0)
+  asks_next took inp items d way (Some key) what is_taken desk answered rest_of row_is items_are left next none h tracks =
       let a : Option Ask = Some (item.AskDial key, message.Dial key) in
       let it : Tracks (Some (record { took = took; asked = Some (item.AskDial key) })) = subst (λ b. Tracks (Some (record { took = b; asked = Some (item.AskDial key) }))) is_taken (subst Tracks h.0 tracks) in
-      moved took a refl it (ap (λ (w : Mailbox Key). w.desk) h.1.1 ∙ ap (λ w. with_message w (message.Dial key)) desk) (ap (λ (w : Mailbox Key). w.dialer) h.1.1 ∙ answered)
+      moved took a (refl, λ l i. tt) it (ap (λ (w : Mailbox Key). w.desk) h.1.1 ∙ ap (λ w. with_message w (message.Dial key)) desk) (ap (λ (w : Mailbox Key). w.dialer) h.1.1 ∙ answered)
       (h.1.1
       ∙ (ap (λ w. with_message_in w (message.Dial key)) rest_of
       ∙ (ap (λ w. record m { desk = with_message w (message.Dial key); dialer = way.dialer }) refl ∙ ap (λ (w : Mailbox Key). record m { desk = w.desk; dialer = w.dialer }) (sym h.1.1))))
-      (left a) items None row_is (items_are a)
-      (actor_now (actor_of g (record d { peers = without_last d.peers; is_asking = true })) x.dialing.attempts h.1.0 ∙ ap (λ (w : Dials). Some (actor_of g w)) (sym next))
-      (subst (IsBegun g k None) (sym none) tt) (attempts_now (actor_of g (record d { peers = without_last d.peers; is_asking = true })) x.dialing.attempts h.1.0) did
+      (left a) items None (record d { peers = without_last d.peers; is_asking = true }) row_is (items_are a) next
+      (actor_now (actor_of g (record d { peers = without_last d.peers; is_asking = true })) x.dialing.attempts h.1.0)
+      (subst (IsBegun g k None) (sym none) tt) (attempts_now (actor_of g (record d { peers = without_last d.peers; is_asking = true })) x.dialing.attempts h.1.0)
 
   -- ---- its deadline has come
 
@@ -339,16 +359,16 @@ module _ (configs : List Config) (log : List Entry) (moment seed n : ℕ) (x y :
   by_key key keys None what is last row_is h tracks = absurd (last_there key keys (ap last_key (sym is) ∙ last))
   by_key key keys (Some first) what is last row_is h tracks =
       asks_next false input.Deadline [] (record ds { deadline = moment + g.dial_frequency }) m (Some first) what refl refl refl refl
-      (row_is ∙ ap (λ o. record { reply = reply.Ok; takes = []; puts = dial_puts n o; ends = [] }) last) nothing_taken (λ a. none_left log n) refl refl refl h tracks
+      (row_is ∙ ap (λ o. record { reply = reply.Ok; takes = []; puts = dial_puts n o; ends = [] }) last) nothing_taken (λ a. none_left log n) (due_told (pace_of g) n moment first ds) refl h tracks
 
   by_peers : (keys : List Key) (what : Option Dialed) → ds.peers ≡ keys → row configs log moment seed (act.Dialer n) ≡ due_row n keys → TurnsTo (turns.asks_whom keys (actor_of g ds) m moment) what → Tracks what
       → Performs configs log ev n y ls r
   by_peers [] what is row_is h tracks =
       let a : Option Ask = Some (item.AskDialable, message.Dialable) in
       let now = actor_of g (record ds { asked_at = moment; is_asking = true }) in
-      moved false a refl (subst Tracks h.0 tracks) (ap (λ (w : Mailbox Key). w.desk) h.1.1) (ap (λ (w : Mailbox Key). w.dialer) h.1.1)
-      (h.1.1 ∙ ap (λ (w : Mailbox Key). record m { desk = w.desk; dialer = w.dialer }) (sym h.1.1)) (none_left log n) [] None row_is (nothing_taken a)
-      (actor_now now x.dialing.attempts h.1.0) tt (attempts_now now x.dialing.attempts h.1.0) refl
+      moved false a (refl, λ l i. tt) (subst Tracks h.0 tracks) (ap (λ (w : Mailbox Key). w.desk) h.1.1) (ap (λ (w : Mailbox Key). w.dialer) h.1.1)
+      (h.1.1 ∙ ap (λ (w : Mailbox Key). record m { desk = w.desk; dialer = w.dialer }) (sym h.1.1)) (none_left log n) [] None (record ds { asked_at = moment; is_asking = true }) row_is (nothing_taken a)
+      (asked_told (pace_of g) n moment [] (queue.Tracker n) [] ds) (actor_now now x.dialing.attempts h.1.0) tt (attempts_now now x.dialing.attempts h.1.0)
   by_peers (key ∷ keys) what is row_is h tracks = by_key key keys (last_key ds.peers) what is refl (row_is ∙ ap (dials_row n []) (sym is)) h tracks
 
   by_due : (b : Bool) (what : Option Dialed) → (not ds.is_asking && nat_le ds.deadline moment) ≡ b → answers ≡ [] → TurnsTo (cond b (turns.asks_whom ds.peers (actor_of g ds) m moment) (record { stepped = stepped.Idle; actor = actor_of g ds; way = m })) what
@@ -371,8 +391,8 @@ module _ (configs : List Config) (log : List Entry) (moment seed n : ℕ) (x y :
     one_taken : (i : Item) → z.item ≡ i → (a : Option Ask) → taken log (e true a) ≡ i ∷ []
     one_taken i is a = first_taken log (e true a) (queue.Dialer n) z others first (ap (taken_names true) first) ∙ ap (λ j. j ∷ []) is
 
-    answer_row : (i : Item) → z.item ≡ i → row configs log moment seed (act.Dialer n) ≡ answered_row n seed ds (name_of z) i
-    answer_row i is = row_by (z ∷ others) first ∙ ap (answered_row n seed ds (name_of z)) is
+    answer_row : (i : Item) → z.item ≡ i → row configs log moment seed (act.Dialer n) ≡ answer_taken_row n seed ds (name_of z) i
+    answer_row i is = row_by (z ∷ others) first ∙ ap (answer_taken_row n seed ds (name_of z)) is
 
     abbrev taking : List (ℕ × ℕ) → List (Queue × Item) → Row
     taking names puts = record { reply = reply.Ok; takes = names; puts = puts; ends = [] }
@@ -381,30 +401,47 @@ module _ (configs : List Config) (log : List Entry) (moment seed n : ℕ) (x y :
     takes_are puts = ap (λ q. taking (taken_names true q) puts) (sym first)
 
     -- whom to dial
-    told : (next : Option ℕ) (peers : List Key) (what : Option Dialed) → z.item ≡ item.Dialable next peers
+    listed : (next : Option ℕ) (peers : List Key) (what : Option Dialed) → z.item ≡ item.Dialable next peers
         → TurnsTo (turns.answer_turn (answer.Dialable (record { peers = peers; next_query_at = next })) (actor_of g ds) way_left k moment seed) what → Tracks what → Performs configs log ev n y ls r
-    told next peers what is h tracks =
+    listed next peers what is h tracks =
         let keys = in_drawn_order seed peers in
         let d : Dials = record ds { peers = keys; deadline = next_deadline (pace_of g) ds.asked_at peers next } in
         asks_next true input.Answer (item.Dialable next peers ∷ []) d way_left (last_key keys) what refl refl refl refl (answer_row (item.Dialable next peers) is ∙ takes_are (dial_puts n (last_key keys)))
-        (one_taken (item.Dialable next peers) is) first_gone refl (after (last_key keys)) refl
+        (one_taken (item.Dialable next peers) is) first_gone (comes (last_key keys)) refl
         (subst (λ w. TurnsTo (turns.dials_next input.Answer (record (actor_of g ds) { peers = keys; deadline = w }) way_left) what) (deadline_is g ds.asked_at peers next) h) tracks
       where
-        after : (o : Option Key)
-            → stepped_dials (pace_of g) moment seed (item.Dialable next peers ∷ []) (dial_puts n o) ds
-            ≡ dials_after o (record ds { peers = in_drawn_order seed peers; deadline = next_deadline (pace_of g) ds.asked_at peers next })
-        after None = refl
-        after (Some key) = refl
+        with_list : Dials
+        with_list = record ds { peers = in_drawn_order seed peers; deadline = next_deadline (pace_of g) ds.asked_at peers next }
+
+        in_order : Dials
+        in_order = record with_list { is_asking = false }
+
+        by : (o : Option Key) → elim o [ None ↦ in_order | Some key ↦ record in_order { peers = without_last in_order.peers; is_asking = true } ] ≡ dials_after o with_list
+        by None = refl
+        by (Some key) = refl
+
+        comes : (o : Option Key) → IsNext (item.Dialable next peers ∷ []) (dial_puts n o) (dials_after o with_list)
+        comes o =
+            ap (dials_told (pace_of g) n (ask_tells n moment (item.Dialable next peers ∷ []) (dial_puts n o))) (list_told (pace_of g) n ds.asked_at k moment seed next peers [] ds)
+            ∙ (next_told (pace_of g) n moment (item.Dialable next peers) [] o in_order ∙ by o)
 
     -- a dial that was refused
     refused : (what : Option Dialed) → z.item ≡ item.Dial None → TurnsTo (turns.answer_turn (answer.Dial None) (actor_of g ds) way_left k moment seed) what → Tracks what → Performs configs log ev n y ls r
     refused what is h tracks =
         asks_next true input.Answer (item.Dial None ∷ []) ds way_left (last_key ds.peers) what refl refl refl refl (answer_row (item.Dial None) is ∙ takes_are (dial_puts n (last_key ds.peers)))
-        (one_taken (item.Dial None) is) first_gone refl (after (last_key ds.peers)) refl h tracks
+        (one_taken (item.Dial None) is) first_gone (comes (last_key ds.peers)) refl h tracks
       where
-        after : (o : Option Key) → stepped_dials (pace_of g) moment seed (item.Dial None ∷ []) (dial_puts n o) ds ≡ dials_after o ds
-        after None = refl
-        after (Some key) = refl
+        quiet : Dials
+        quiet = record ds { is_asking = false }
+
+        by : (o : Option Key) → elim o [ None ↦ quiet | Some key ↦ record quiet { peers = without_last quiet.peers; is_asking = true } ] ≡ dials_after o ds
+        by None = refl
+        by (Some key) = refl
+
+        comes : (o : Option Key) → IsNext (item.Dial None ∷ []) (dial_puts n o) (dials_after o ds)
+        comes o =
+            ap (dials_told (pace_of g) n (ask_tells n moment (item.Dial None ∷ []) (dial_puts n o))) (dial_told (pace_of g) n ds.asked_at k moment seed None [] ds)
+            ∙ (next_told (pace_of g) n moment (item.Dial None) [] o quiet ∙ by o)
 
     -- one that was granted
     granted : (p : Key × Ingress) (what : Option Dialed) → z.item ≡ item.Dial (Some p) → TurnsTo (turns.answer_turn (answer.Dial (Some (metadata.Dialer p.0, p.1))) (actor_of g ds) way_left k moment seed) what → Tracks what
@@ -416,11 +453,13 @@ module _ (configs : List Config) (log : List Entry) (moment seed n : ℕ) (x y :
         let a = new_attempt k reserved p.1 g moment in
         let later = attempts_with (Some a) k x.dialing.attempts in
         moved true None tt (subst Tracks h.0 tracks) (ap (λ (w : Mailbox Key). w.desk) h.1.1) (ap (λ (w : Mailbox Key). w.dialer) h.1.1)
-        (h.1.1 ∙ ap (λ (w : Mailbox Key). record m { desk = w.desk; dialer = w.dialer }) (sym h.1.1)) (first_gone None) (i ∷ []) (Some a) (answer_row i is ∙ takes_are []) (one_taken i is None)
-        (actor_now now later h.1.0) (reserved, refl, begun_is g rules k reserved p.0 moment p.1 (timeout_is configs n)) (attempts_now now later h.1.0) refl
+        (h.1.1 ∙ ap (λ (w : Mailbox Key). record m { desk = w.desk; dialer = w.dialer }) (sym h.1.1)) (first_gone None) (i ∷ []) (Some a) (record ds { is_asking = false }) (answer_row i is ∙ takes_are []) (one_taken i is None)
+        (dial_told (pace_of g) n ds.asked_at k moment seed (Some p) [] ds) (actor_now now later h.1.0)
+        (subst (IsBegun g k (Some a)) (sym (granted_told rules n k (last_or 0 (asks_list n) (told log)) moment seed p [])) (reserved, refl, begun_is g rules k reserved p.0 moment p.1 (timeout_is configs n)))
+        (attempts_now now later h.1.0)
 
     by_answer : (i : Item) (a : DialerAnswer Key) (what : Option Dialed) → z.item ≡ i → IsAnswer i a → TurnsTo (turns.answer_turn a (actor_of g ds) way_left k moment seed) what → Tracks what → Performs configs log ev n y ls r
-    by_answer (item.Dialable next peers) a what is h turn tracks = told next peers what is (subst (λ b. TurnsTo (turns.answer_turn b (actor_of g ds) way_left k moment seed) what) h turn) tracks
+    by_answer (item.Dialable next peers) a what is h turn tracks = listed next peers what is (subst (λ b. TurnsTo (turns.answer_turn b (actor_of g ds) way_left k moment seed) what) h turn) tracks
     by_answer (item.Dial grant) a what is h turn tracks = by_grant grant is (subst (λ b. TurnsTo (turns.answer_turn b (actor_of g ds) way_left k moment seed) what) h turn)
       where
         by_grant : (o : Option (Key × Ingress)) → z.item ≡ item.Dial o → TurnsTo (turns.answer_turn (answer.Dial (dialed_grant o)) (actor_of g ds) way_left k moment seed) what → Performs configs log ev n y ls r

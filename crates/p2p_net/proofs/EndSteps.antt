@@ -11,7 +11,7 @@ use Rattle.p2p_log.specs.declared.event.Act.TheVariants as act
 use Rattle.p2p_log.specs.Lines.{line}
 use Rattle.p2p_log_rules.specs.declared.row.Half.{Half}
 use Rattle.p2p_log_rules.specs.declared.row.Row.{Row}
-use Rattle.p2p_log_rules.specs.Connections.{live_half, is_begun, is_running}
+use Rattle.p2p_log_rules.specs.Connections.{live_half, is_begun, has_run}
 use Rattle.p2p_log_rules.specs.Effect.{row, effect, entry_of}
 use Rattle.p2p_log_rules.specs.Ending.{end_row}
 use Rattle.p2p_log_rules.specs.Spawning.{connections_of}
@@ -99,7 +99,7 @@ is_kept configs log n conn half cs s has none =
     cc
 
 module _ (configs : List Config) (log : List Entry) (at seed n conn : ℕ) (half : Half) (why : Ended) (c : Cause) (taken : List Envelope) (x w y : Node) (l m links : Links) (r : Row)
-    (s : NodeStands configs log n x) (has : live_half log n conn ≡ Some half) (begun : is_begun log n conn ≡ true) (running : is_running log n conn ≡ true)
+    (s : NodeStands configs log n x) (has : live_half log n conn ≡ Some half) (begun : is_begun log n conn ≡ true) (running : has_run log n conn ≡ true)
     (heard : Each (λ z. names_ready conn z.item ≡ false) (line log (queue.Router n))) where
   leaves : (o : Option Connection) → HaveLeft configs log n conn half taken x w l m → table.at w.connections.spawned conn ≡ o → EndsBy o (length log) n conn half w y m links (took_row why c taken) r
       → Leaving configs log n conn half why c taken x w y l m links r

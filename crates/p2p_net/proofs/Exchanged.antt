@@ -24,6 +24,7 @@ use Rattle.p2p_log.specs.declared.event.Act.TheVariants as act
 use Rattle.p2p_log.specs.QueueCode.{same_queue}
 use Rattle.p2p_log.specs.Lines.{placed, stands_in, line}
 use Rattle.p2p_log.proofs.Queues.{same_queue-refl, same_queue-sym}
+use Rattle.p2p_log_rules.proofs.Connections.{ends_untold}
 use Rattle.p2p_log_rules.specs.declared.row.Opening.{Opening}
 use Rattle.p2p_log_rules.specs.declared.row.ListeningEnd.{ListeningEnd}
 use Rattle.p2p_log_rules.specs.declared.row.ListeningEnd.TheVariants as listening
@@ -32,9 +33,11 @@ use Rattle.p2p_log_rules.specs.Attempting.{Attempt, attempts_of}
 use Rattle.p2p_log_rules.specs.Effect.{only, row, effect, entry_of}
 use Rattle.p2p_log_rules.specs.Facts.{key_at}
 use Rattle.p2p_log_rules.specs.Links.{openings_of, listening_ends_of, is_dialed, accepts, exchanged, dialing_puts, listening_puts, finished_row, verdict, finish_by}
-use Rattle.p2p_log_rules.proofs.Attempts.{attempts_of-append, attempts_kept}
+use Rattle.p2p_log_rules.proofs.AttemptTellings.{attempts_of-kept}
 use Rattle.p2p_log_rules.proofs.Dialing.{dials_of-kept}
 use Rattle.p2p_log_rules.proofs.Touches.{in_ends}
+use Rattle.p2p_log_rules.proofs.HandshakeEnds.{ends_lead}
+use Rattle.p2p_log_rules.proofs.Handshakes.{handshakes_of-apart}
 use Rattle.p2p_log_laws.proofs.Untouched.{line-untouched}
 use Rattle.p2p_net_queues.specs.Tables as table
 use Rattle.p2p_net_queues.specs.Tables.{AreBut}
@@ -44,9 +47,9 @@ use Rattle.p2p_net_dialer.specs.Stands.{DialerStands}
 use Rattle.p2p_net_dialer.proofs.Attempting.{dialed_key_is, finished_line, finished_row_is, dialer_finished}
 use Rattle.p2p_net_listener.specs.Stands.{ListenerStands, LeavesListener}
 use Rattle.p2p_net_listener.specs.declared.listening.Listening.{Listening}
-use Rattle.p2p_net_listener.proofs.Changes.{listener_frame, listener_unmoved, listener_finished}
-use Rattle.p2p_net_listener.proofs.Ends.{ends_unmoved}
-use Rattle.p2p_net_listener.proofs.Finishing.{runs_over, end_accepts, end_finished}
+use Rattle.p2p_net_listener.proofs.Changes.{listener_frame, listener_finished}
+use Rattle.p2p_net_listener.proofs.Leaving.{listener_apart, listener_untold}
+use Rattle.p2p_net_listener.proofs.Finishing.{end_accepts, end_finished}
 use Rattle.p2p_net_tracker.specs.Finishing.{finished_put, told_finished}
 use Rattle.p2p_net_tracker.specs.Stands.{is_told, TrackerStands, LeavesTracker}
 use Rattle.p2p_net_tracker.specs.declared.tracker.Tracker.{Tracker}
@@ -232,12 +235,12 @@ module _ (configs : List Config) (log : List Entry) (moment seed link : ℕ) (ok
   unfolding effect
   dialer_now =
       dialer_finished configs log n o.attempt agree c.first.dialing c.after.dialing (only reply.Ok) c.told (first_stands.each dialer) c.finishes e refl (dials_of-kept configs log e n refl)
-      (λ j. attempts_of-append configs log e n j ∙ attempts_kept configs log e n j (attempts_of configs log n j) refl) c.tells.0 other_line attempt_line
+      (λ j. attempts_of-kept configs log e n j refl) c.tells.0 other_line attempt_line
 
   -- nothing that a listener goes by changes
   leaves_listener : (j : ℕ) → LeavesListener configs log e j
   unfolding effect
-  leaves_listener j = listener_unmoved configs log e j refl (unreached (queue.Arrivals j) refl) (ends_unmoved log e j refl refl)
+  leaves_listener j = listener_untold log e j configs (listener_apart log e j refl) (unreached (queue.Arrivals j) refl)
 
   listener_kept : (j : ℕ) (w : Node) → ListenerStands configs log j w.listening → ListenerStands configs (log ++ e ∷ []) j w.listening
   listener_kept j w t = listener_frame configs log e j w.listening t (leaves_listener j)
@@ -263,11 +266,11 @@ module _ (configs : List Config) (log : List Entry) (moment seed link : ℕ) (ok
   unfolding effect
   leaves_tracker none = record {
     no_step = refl;
-    no_end = λ conn. refl;
+    no_end = λ conn. ends_untold log e m conn (act.Finish link ok) refl refl;
     no_question = refl;
     no_answer = λ d h. refl;
     no_late_answer = λ d h. refl;
-    handshakes = refl;
+    handshakes = handshakes_of-apart log e m refl;
     mailbox = unreached (queue.Tracker m) refl;
     told = untold_lines none;
   }
@@ -278,11 +281,11 @@ module _ (configs : List Config) (log : List Entry) (moment seed link : ℕ) (ok
   unfolding effect
   tracker_tells h same t tracks listens = tracker_after_finish configs log e m h (length c.told.puts) agree c.second.tracker c.last.tracker tracks (record {
     no_step = refl;
-    no_end = λ conn. refl;
+    no_end = λ conn. ends_untold log e m conn (act.Finish link ok) refl refl;
     no_question = refl;
     no_answer = λ d. refl;
-    names = refl;
-    runs = (runs_over log m link h (end_is ∙ same)).runs;
+    names = handshakes_of-apart log e m refl;
+    runs = (ends_lead log m link h (end_is ∙ same)).0;
     rest =
         t.tracker
         ∙ ap (λ (w : Mailbox Key). record c.second.tracker { mailbox = w; told = c.last.tracker.told })

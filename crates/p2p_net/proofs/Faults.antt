@@ -6,6 +6,7 @@ use Rattle.std.proofs.lemmas.Option.{slice_get-get_or}
 use Rattle.std.specs.Ordering.{nat_cmp, is_eq}
 use Rattle.std.proofs.lemmas.Bool.Decides.{nat_tests}
 use Rattle.std.proofs.lemmas.List.Folds.{list_any-append}
+use Rattle.p2p_log_rules.proofs.Bools.{and_false, or_false}
 use Rattle.p2p_log.specs.declared.config.Config.{Config}
 use Rattle.p2p_log.specs.declared.event.Event.{Event}
 use Rattle.p2p_log_rules.specs.Valid.{fits, has_key, is_valid_config, config_fault_from, is_valid_event, event_fault_from}
@@ -58,10 +59,6 @@ pub event_fault-end : (configs : List Config) (vs : List Event) (i : ℕ) → le
 unfolding event_fault_from
 event_fault-end configs vs i h = ap (event_fault_from configs (take i vs)) (drop-all vs i h)
 
-or-false : (b : Bool) → (b || false) ≡ b
-or-false true = refl
-or-false false = refl
-
 -- the keys so far, with one more
 pub keys-step :
     (cs : List Config) (i : ℕ) (c : Config) (old new : Bool) (k : ℕ) → slice_get cs i ≡ Some c
@@ -72,9 +69,9 @@ keys-step cs i c old new k h before put =
     let test : is_eq (nat_cmp c.public_key.0 k) ≡ (c.public_key.0 == k) = grind (arith, nat_tests) in
     put
     ∙ (ap (λ b. cond b true old) test
-    ∙ ((elim (c.public_key.0 == k) as (λ b. cond b true old ≡ (old || b)) [ true ↦ elim old as (λ o. true ≡ (o || true)) [ true ↦ refl | false ↦ refl ] | false ↦ sym (or-false old) ])
+    ∙ ((elim (c.public_key.0 == k) as (λ b. cond b true old ≡ (old || b)) [ true ↦ elim old as (λ o. true ≡ (o || true)) [ true ↦ refl | false ↦ refl ] | false ↦ sym (or_false old) ])
     ∙ (ap (λ o. o || (c.public_key.0 == k)) before
-    ∙ (ap (λ b. list_any (has_key (record { 0 = k })) (take i cs) || b) (sym (or-false (c.public_key.0 == k)))
+    ∙ (ap (λ b. list_any (has_key (record { 0 = k })) (take i cs) || b) (sym (or_false (c.public_key.0 == k)))
     ∙ (sym (list_any-append (has_key (record { 0 = k })) (take i cs) (c ∷ [])) ∙ ap (list_any (has_key (record { 0 = k }))) (sym (take-step cs i c h)))))))
 
 -- ---- as the loop over the configurations has it
@@ -99,10 +96,6 @@ fault_later cs i d lt so_far good =
 
 pub unfit : (before : List Config) (c : Config) (b : Bool) → b ≡ fits c → b ≡ false → is_valid_config before c ≡ false
 unfit before c b h e = ap (λ x. x && not (list_any (has_key c.public_key) before)) (sym h ∙ e)
-
-and_false : (b : Bool) → (b && false) ≡ false
-and_false true = refl
-and_false false = refl
 
 pub repeated : (before : List Config) (c : Config) (seen : Bool) → seen ≡ list_any (has_key (record { 0 = c.public_key.0 })) before → seen ≡ true → is_valid_config before c ≡ false
 repeated before c seen h e = ap (λ x. fits c && not x) (sym h ∙ e) ∙ and_false (fits c)

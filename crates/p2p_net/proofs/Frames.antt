@@ -1,9 +1,11 @@
 -- A part of a node that an act does not name stands for the log with its entry.
 use Rattle.std.proofs.Common.{◌≡◌, ℕ, ◌≤◌, Bool, true, false, cond, List, [], ◌∷◌, ◌++◌, length, refl, ap, sym, subst, ◌∙◌, arith, eqb-true, Option, Some, None}
 use Rattle.std.specs.Prelude.{map, filter, slice_get, ◌==◌, ◌&&◌, ◌||◌}
+use Rattle.std.specs.List.{list_any}
 use Rattle.std.proofs.lemmas.Bool.{false≢true}
 use Rattle.std.proofs.lemmas.Option.{slice_get_past}
 use Rattle.std.proofs.lemmas.Bool.Decides.{nat_tests}
+use Rattle.p2p_log_rules.proofs.Bools.{and_false}
 use Rattle.p2p_log.specs.declared.config.Config.{Config}
 use Rattle.p2p_log.specs.declared.queue.Queue.{Queue}
 use Rattle.p2p_log.specs.declared.queue.Queue.TheVariants as queue
@@ -14,43 +16,50 @@ use Rattle.p2p_log.specs.declared.event.Rate.{Rate}
 use Rattle.p2p_log.specs.declared.event.Act.{Act}
 use Rattle.p2p_log.specs.declared.event.Act.TheVariants as act
 use Rattle.p2p_log.specs.Lines.{live, line, stands_in}
-use Rattle.p2p_log_rules.specs.Connections.{steps_sender, is_done, is_answer, steps_receiver, begins, is_begun, ends_connection}
-use Rattle.p2p_log_rules.specs.Facts.{starts, registers_at, capacity_for, taken, steps_router}
+use Rattle.p2p_log_rules.specs.Connections.{is_done, begins, is_begun, ends_connection}
+use Rattle.p2p_log_rules.specs.Facts.{starts, registers_at, with_capacity, taken}
 use Rattle.p2p_log_rules.specs.Spawning.{steps_spawner}
+use Rattle.p2p_log_rules.proofs.Families.{kinds_of, are_apart}
 use Rattle.p2p_log_rules.proofs.Spawning.{connections_of-unmade}
 use Rattle.p2p_log_rules.specs.Effect.{row, effect}
 use Rattle.p2p_log_rules.specs.Tracking.{asked_by, steps_tracker}
-use Rattle.p2p_log_rules.specs.TrackerRows.{answers, is_answer as gives_answer, answer_by}
+use Rattle.p2p_log_rules.specs.TrackerRows.{takes_answer, is_peer_set as gives_answer, answer_by}
 use Rattle.p2p_net_tracker.specs.declared.question.Question.{Question}
 use Rattle.p2p_net_tracker.specs.declared.question.Question.TheVariants as question
 use Rattle.p2p_net_tracker.specs.Stands.{kind_of, asks_of, asks_at, is_told}
 use Rattle.p2p_net_tracker.proofs.Changes.{tracker_frame}
 use Rattle.p2p_net_dialer.specs.Stands.{is_of_dialer}
 use Rattle.p2p_net_dialer.proofs.Changes.{dialer_frame, dialer_unmoved}
-use Rattle.p2p_net_listener.specs.Stands.{is_of_listener, links_to}
-use Rattle.p2p_net_listener.proofs.Ends.{ends_unmoved}
-use Rattle.p2p_net_listener.proofs.Changes.{listener_frame, listener_unmoved, handshakes_unmoved}
+use Rattle.p2p_net_listener.proofs.Leaving.{of_listener, listener_kinds, listener_apart, listener_untold}
+use Rattle.p2p_net_listener.proofs.Changes.{listener_frame}
 use Rattle.p2p_net_router.specs.Names.{is_routers}
-use Rattle.p2p_net_router.specs.Stands.{IsBeside}
+use Rattle.p2p_net_router.specs.Stands.{RoutesNothing, IsBeside}
 use Rattle.p2p_net_router.specs.declared.router.Router.{Router}
 use Rattle.p2p_net_router.proofs.Beside.{stands_beside}
+use Rattle.p2p_net_router.proofs.Unrouted.{unrouted_apart, unrouted_elsewhere}
 use Rattle.p2p_net_channels.proofs.Changes.{channels_frame}
 use Rattle.p2p_net_connections.specs.Stands.{BeginsNone}
 use Rattle.p2p_net_connections.proofs.Changes.{connections_frame}
 use Rattle.p2p_net_links.specs.Stands.{LinksStand}
 use Rattle.p2p_net_links.specs.declared.links.Links.{Links}
-use Rattle.p2p_net_links.proofs.Changes.{opens_none, openings_unmoved, links_frame}
+use Rattle.p2p_net_links.proofs.Changes.{openings_unmoved, links_frame}
 use Rattle.p2p_log_rules.proofs.Dropping.{drops_none}
 use Rattle.p2p_net_links.proofs.Drops.{drops_none-act}
 use Rattle.p2p_net_connections.proofs.SpawnerChanges.{spawner_kept}
 use Rattle.p2p_net.specs.Places.{Part, router, channels, connections, tracker, dialer, listener, spawner, same_part, links, home, names, at, asked_node, or_first, node_asked}
 use Rattle.p2p_net.specs.Stands.{RouterStands, PartStands}
 use Rattle.p2p_net.specs.declared.node.Node.{Node}
-use Rattle.p2p_net.proofs.ActKinds.{registers_unless, starts_unless, routes_unless, sends_unless}
+use Rattle.p2p_net.proofs.ActKinds.{registers_unless, starts_unless, sends_unless}
 use Rattle.p2p_net.proofs.Receivers.{receives_unnamed, admits_unnamed, sends_unnamed, closes_unnamed}
 use Rattle.p2p_net.proofs.Routers.{HearsTheSame, hears_kept, hears_late, RouterStands-moved}
 use Rattle.p2p_net.proofs.Touching.{line-unnamed}
-use Rattle.p2p_log_rules.proofs.Connections.{live_connection-kept, ends_none-act}
+use Rattle.p2p_log_rules.proofs.Connections.{steps_sender, steps_receiver, begins_act, live_connection-kept, ends_none-act}
+use Rattle.p2p_log_rules.specs.Handshakes.{handshakes_of}
+use Rattle.p2p_log_rules.specs.Told.{tells, told}
+use Rattle.p2p_log_rules.proofs.Handshakes.{handshake_kinds, handshakes_of-apart, handshakes_of-elsewhere, handshakes_of-another}
+use Rattle.p2p_log_rules.proofs.Links.{exchange_kinds}
+use Rattle.p2p_log_rules.proofs.LinkTells.{quiet_told}
+use Rattle.p2p_log_rules.proofs.Routing.{route_kinds}
 
 -- the event of an effect, and its act
 pub effect-act : (configs : List Config) (log : List Entry) (ev : Event) → (effect configs log ev).event.act ≡ ev.act
@@ -81,14 +90,11 @@ tracker_apart log n conn _ h = refl
 
 -- ---- channels
 
-unregistered : (n m : ℕ) (cs : List (ℕ × ℕ)) → (m == n) ≡ false → cond (m == n) cs [] ≡ []
-unregistered n m cs h = ap (λ b. cond b cs []) h
-
 -- the entry registers no channel at a node whose part the act does not name, where a registration names it
 registers_none : (configs : List Config) (log : List Entry) (n : ℕ) (p : Part) (a : Act) → ((c m : ℕ) (rate : Rate) → names log (act.Register c m rate) (at p n) ≡ false → (m == n) ≡ false) → names log a (at p n) ≡ false → registers_at configs n a ≡ []
 registers_none configs log n p a apart h =
     registers_unless configs n a
-    (λ c m rate is. unregistered n m ((c, capacity_for (slice_get configs n) rate) ∷ []) (apart c m rate (sym (ap (λ x. names log x (at p n)) is) ∙ h)))
+    (λ c m rate is. ap (λ b. map (with_capacity configs n) (cond b ((c, rate) ∷ []) [])) (apart c m rate (sym (ap (λ x. names log x (at p n)) is) ∙ h)))
 
 -- ---- connections
 
@@ -105,24 +111,21 @@ sends_none log n conn a h = sends_unless n conn a (λ d m is. steps_other log n 
 
 -- the entry begins none of the node's connections, and takes no answer to one, where its act is no step of a sending half
 pub begins_unsent : (log : List Entry) (e : Entry) (n : ℕ) (a : Act) → e.event.act ≡ a → ((conn : ℕ) → steps_sender n conn a ≡ false) → BeginsNone log e n
-begins_unsent log e n a is none = record {
-  no_begin = λ conn. ap (λ x. steps_sender n conn x && is_done e.reply) is ∙ ap (λ b. b && is_done e.reply) (none conn);
-  no_answer = λ conn. ap (λ x. cond (steps_sender n conn x) (map is_answer (taken log e)) []) is ∙ ap (λ b. cond b (map is_answer (taken log e)) []) (none conn);
-}
+begins_unsent log e n a is none conn = begins_act log e n conn a is ∙ ap (λ b. b && is_done e.reply) (none conn)
 
 -- ---- the router
 
-routed_none : (log : List Entry) (e : Entry) (n : ℕ) (a : Act) → names log a (at router n) ≡ false → cond (steps_router n a) (taken log e) [] ≡ []
-routed_none log e n a h =
-    ap (λ b. cond b (taken log e) []) (routes_unless n a (λ m is. let f : names log (act.Router m) (at router n) ≡ false = sym (ap (λ x. names log x (at router n)) is) ∙ h in grind (arith, nat_tests)))
+routed_none : (log : List Entry) (e : Entry) (n : ℕ) (a : Act) → e.event.act ≡ a → names log a (at router n) ≡ false → RoutesNothing log e n
+routed_none log e n (act.Router m) is h = unrouted_elsewhere log e n m is (grind (arith, nat_tests))
+routed_none log e n a is h = unrouted_apart log e n (ap (λ b. are_apart (kinds_of b) route_kinds) is)
 
 starts_none : (log : List Entry) (n : ℕ) (a : Act) → names log a (at router n) ≡ false → starts n a ≡ false
 starts_none log n a h = starts_unless n a (λ m is. let f : names log (act.Start m) (at router n) ≡ false = sym (ap (λ x. names log x (at router n)) is) ∙ h in grind (arith, nat_tests))
 
-pub beside_by : (configs : List Config) (log : List Entry) (e : Entry) (n : ℕ) (a : Act) → e.event.act ≡ a → names log a (at router n) ≡ false → ((conn : ℕ) → ends_connection n conn e ≡ false) → IsBeside configs log e n
+pub beside_by : (configs : List Config) (log : List Entry) (e : Entry) (n : ℕ) (a : Act) → e.event.act ≡ a → names log a (at router n) ≡ false → ((conn : ℕ) → ends_connection n conn log e ≡ false) → IsBeside configs log e n
 beside_by configs log e n a is h lives = record {
   no_end = lives;
-  no_step = ap (λ x. cond (steps_router n x) (taken log e) []) is ∙ routed_none log e n a h;
+  no_step = routed_none log e n a is h;
   no_channel = ap (registers_at configs n) is ∙ registers_none configs log n router a (λ c m rate k. grind (arith, nat_tests)) h;
   no_start = ap (starts n) is ∙ starts_none log n a h;
 }
@@ -156,13 +159,13 @@ hears_unnamed configs log ev n h late = by (steps_spawner n ev.act) refl
     e : Entry
     e = effect configs log ev
 
-    idle : (conn : ℕ) → begins n conn e ≡ false
+    idle : (conn : ℕ) → begins n conn log e ≡ false
     idle conn =
-        ap (λ a. steps_sender n conn a && is_done e.reply) (effect-act configs log ev)
+        begins_act log e n conn ev.act (effect-act configs log ev)
         ∙ ap (λ b. b && is_done e.reply) (first_half (steps_sender n conn ev.act) (steps_receiver n conn ev.act) (router_apart log n conn ev.act h))
 
-    lives : (conn : ℕ) → ends_connection n conn e ≡ false
-    lives conn = ends_none-act e n conn ev.act (effect-act configs log ev) (router_apart log n conn ev.act h)
+    lives : (conn : ℕ) → ends_connection n conn log e ≡ false
+    lives conn = ends_none-act log e n conn ev.act (effect-act configs log ev) (router_apart log n conn ev.act h)
 
     by : (b : Bool) → steps_spawner n ev.act ≡ b → HearsTheSame log e n
     by true makes = hears_late log e n idle lives (late makes)
@@ -173,7 +176,7 @@ pub router_frame : (configs : List Config) (log : List Entry) (ev : Event) (n : 
     → RouterStands configs (log ++ effect configs log ev ∷ []) n r
 router_frame configs log ev n r s h late =
     let e = effect configs log ev in
-    let lives : (conn : ℕ) → ends_connection n conn e ≡ false = λ conn. ends_none-act e n conn ev.act (effect-act configs log ev) (router_apart log n conn ev.act h) in
+    let lives : (conn : ℕ) → ends_connection n conn log e ≡ false = λ conn. ends_none-act log e n conn ev.act (effect-act configs log ev) (router_apart log n conn ev.act h) in
     RouterStands-moved configs log e n r r s (hears_unnamed configs log ev n h late)
     (stands_beside configs log e r s.stands (subst (IsBeside configs log e) (sym s.number) (beside_by configs log e n ev.act (effect-act configs log ev) h lives))
     (λ q own.
@@ -205,7 +208,7 @@ asked_here n (Some e) h = by e.event.act h
     by _ h = cc
 
 -- the answer that an act takes is of a node that it names
-answers_none : (log : List Entry) (n d : ℕ) (a : Act) (r : Reply) → names log a (at tracker n) ≡ false → asks_at log n d ≡ Some question.PeerSet → answers d a r ≡ false
+answers_none : (log : List Entry) (n d : ℕ) (a : Act) (r : Reply) → names log a (at tracker n) ≡ false → asks_at log n d ≡ Some question.PeerSet → takes_answer d a r ≡ false
 answers_none log n d (act.Answer e) r h asked = by (e == d) refl
   where
     elsewhere : (node_asked (slice_get log e) == n) ≡ false
@@ -223,14 +226,10 @@ answers_none log n d (act.Answer e) r h asked = by (e == d) refl
 answers_none log n d _ r h asked = refl
 
 -- no answer is taken to a question that comes later
-late_answer : (configs : List Config) (log : List Entry) (ev : Event) (d : ℕ) → length log ≤ d → answers d (effect configs log ev).event.act (effect configs log ev).reply ≡ false
+late_answer : (configs : List Config) (log : List Entry) (ev : Event) (d : ℕ) → length log ≤ d → takes_answer d (effect configs log ev).event.act (effect configs log ev).reply ≡ false
 unfolding effect row
 late_answer configs log ev d past = by ev.act
   where
-    and_false : (b : Bool) → (b && false) ≡ false
-    and_false true = refl
-    and_false false = refl
-
     reply_of : Option Act → ℕ → Reply
     reply_of o e = (answer_by log e o).reply
 
@@ -241,7 +240,7 @@ late_answer configs log ev d past = by ev.act
         let none : asked_by log e ≡ None = ap (λ (o : Option Entry). elim o [ None ↦ None | Some k ↦ Some k.event.act ]) (slice_get_past log e (subst (λ k. length log ≤ k) same past)) in
         ap (λ o. (e == d) && gives_answer (reply_of o e)) none ∙ and_false (e == d)
 
-    by : (a : Act) → answers d a (row configs log ev.at ev.seed a).reply ≡ false
+    by : (a : Act) → takes_answer d a (row configs log ev.at ev.seed a).reply ≡ false
     by (act.Answer e) = at_end e (e == d) refl
     by _ = refl
 
@@ -270,21 +269,24 @@ dials_none log n _ h = refl
 
 -- ---- the listener
 
-listens_none : (log : List Entry) (n : ℕ) (a : Act) → names log a (at listener n) ≡ false → is_of_listener n a ≡ false
-listens_none log n (act.Listener m) h = grind (arith, nat_tests)
-listens_none log n (act.Handshake e m) h = grind (arith, nat_tests)
-listens_none log n _ h = refl
-
--- and no link leads there
-leads_none : (log : List Entry) (n : ℕ) (a : Act) → names log a (at listener n) ≡ false → links_to n a ≡ false
-leads_none log n (act.Connect e from m to) h = grind (arith, nat_tests)
-leads_none log n _ h = refl
+-- an act that does not name it tells nothing of a step of it, nor that a link leads there
+listener_unnamed : (log : List Entry) (e : Entry) (n : ℕ) (a : Act) → e.event.act ≡ a → names log a (at listener n) ≡ false → list_any (of_listener n) (tells (told log) log e) ≡ false
+listener_unnamed log e n (act.Listener m) acts h =
+    let other : (m == n) ≡ false = grind (arith, nat_tests) in
+    quiet_told (told log) log e (of_listener n) (act.Listener m) acts (record { took = λ link o. other; begun = other; drops = λ link. refl }, record { update = λ addresses. other; arrival = λ from g. other })
+listener_unnamed log e n (act.Handshake k m) acts h =
+    let other : (m == n) ≡ false = grind (arith, nat_tests) in
+    quiet_told (told log) log e (of_listener n) (act.Handshake k m) acts (record { took = λ items. other; over = λ link. other; drops = λ link. refl })
+listener_unnamed log e n (act.Connect d from m to) acts h =
+    let other : (to == n) ≡ false = grind (arith, nat_tests) in
+    quiet_told (told log) log e (of_listener n) (act.Connect d from m to) acts (refl, other)
+listener_unnamed log e n a acts h = listener_apart log e n (ap (λ b. are_apart (kinds_of b) listener_kinds) acts)
 
 -- a step of it, or of a handshake of it, names its tracker too
-admits_none : (log : List Entry) (n : ℕ) (a : Act) → names log a (at tracker n) ≡ false → is_of_listener n a ≡ false
-admits_none log n (act.Listener m) h = grind (arith, nat_tests)
-admits_none log n (act.Handshake e m) h = grind (arith, nat_tests)
-admits_none log n _ h = refl
+handshakes_unnamed : (log : List Entry) (e : Entry) (n : ℕ) (a : Act) → e.event.act ≡ a → names log a (at tracker n) ≡ false → handshakes_of (log ++ e ∷ []) n ≡ handshakes_of log n
+handshakes_unnamed log e n (act.Listener m) acts h = let other : (m == n) ≡ false = grind (arith, nat_tests) in handshakes_of-elsewhere log e n m other acts
+handshakes_unnamed log e n (act.Handshake k m) acts h = let other : (m == n) ≡ false = grind (arith, nat_tests) in handshakes_of-another log e n k m other acts
+handshakes_unnamed log e n a acts h = handshakes_of-apart log e n (ap (λ b. are_apart (kinds_of b) handshake_kinds) acts)
 
 -- ---- all parts
 
@@ -304,7 +306,7 @@ part_frame connections configs log ev n x s h late =
     let e = effect configs log ev in
     connections_frame configs log e n x.connections s
     (record {
-      spawns = λ conn. live_connection-kept log e n conn (ends_none-act e n conn ev.act (effect-act configs log ev) (connections_apart log n conn ev.act h))
+      spawns = λ conn. live_connection-kept log e n conn (ends_none-act log e n conn ev.act (effect-act configs log ev) (connections_apart log n conn ev.act h))
           (connections_of-unmade log e n (ap (steps_spawner n) (effect-act configs log ev) ∙ spawns_none log n ev.act h) conn);
       begins = begins_unsent log e n ev.act (effect-act configs log ev) (λ conn. sends_none log n conn ev.act h);
       receives = receives_unnamed configs log e n ev.act (effect-act configs log ev) h (λ conn. line-unnamed configs log ev (queue.Held n conn) h);
@@ -315,13 +317,13 @@ part_frame tracker configs log ev n x s h late =
     tracker_frame configs log e n x.tracker s
     (record {
       no_step = ap (steps_tracker n) (effect-act configs log ev) ∙ tracks_none log n ev.act h;
-      no_end = λ conn. ends_none-act e n conn ev.act (effect-act configs log ev) (tracker_apart log n conn ev.act h);
+      no_end = λ conn. ends_none-act log e n conn ev.act (effect-act configs log ev) (tracker_apart log n conn ev.act h);
       no_question = ap (asks_of n) (effect-act configs log ev) ∙ asks_none log n ev.act h;
-      no_answer = λ d asked. ap (λ a. answers d a e.reply) (effect-act configs log ev) ∙ answers_none log n d ev.act e.reply h asked;
+      no_answer = λ d asked. ap (λ a. takes_answer d a e.reply) (effect-act configs log ev) ∙ answers_none log n d ev.act e.reply h asked;
       no_late_answer = λ d past. late_answer configs log ev d past;
       mailbox = line-unnamed configs log ev (queue.Tracker n) h;
       told = λ q own. line-unnamed configs log ev q (ap (names log ev.act) (told_home n q own) ∙ h);
-      handshakes = handshakes_unmoved log e n (ap (is_of_listener n) (effect-act configs log ev) ∙ admits_none log n ev.act h);
+      handshakes = handshakes_unnamed log e n ev.act (effect-act configs log ev) h;
     })
 part_frame dialer configs log ev n x s h late =
     let e = effect configs log ev in
@@ -331,12 +333,11 @@ part_frame dialer configs log ev n x s h late =
 part_frame listener configs log ev n x s h late =
     let e = effect configs log ev in
     listener_frame configs log e n x.listening s
-    (listener_unmoved configs log e n (ap (is_of_listener n) (effect-act configs log ev) ∙ listens_none log n ev.act h) (line-unnamed configs log ev (queue.Arrivals n) h)
-    (ends_unmoved log e n (ap (is_of_listener n) (effect-act configs log ev) ∙ listens_none log n ev.act h) (ap (links_to n) (effect-act configs log ev) ∙ leads_none log n ev.act h)))
+    (listener_untold log e n configs (listener_unnamed log e n ev.act (effect-act configs log ev) h) (line-unnamed configs log ev (queue.Arrivals n) h))
 part_frame spawner configs log ev n x s h late = spawner_kept configs log (effect configs log ev) n x.spawning s (line-unnamed configs log ev (queue.Spawner n) h)
 
 -- an act that does not name the links opens none, and ends no exchange over one
-unopened : (log : List Entry) (a : Act) → names log a links ≡ false → opens_none a ≡ true
+unopened : (log : List Entry) (a : Act) → names log a links ≡ false → are_apart (kinds_of a) exchange_kinds ≡ true
 unopened log (act.Connect e from n to) h = cc
 unopened log (act.Finish link ok) h = cc
 unopened log _ h = refl
@@ -354,5 +355,5 @@ undropped log _ h = refl
 pub links_kept : (configs : List Config) (log : List Entry) (ev : Event) (l : Links) → LinksStand configs log l → names log ev.act links ≡ false → LinksStand configs (log ++ effect configs log ev ∷ []) l
 links_kept configs log ev l s h =
     links_frame configs log (effect configs log ev) l s (λ t link. line-unnamed configs log ev (queue.Link link t) h)
-    (openings_unmoved log (effect configs log ev) (ap opens_none (effect-act configs log ev) ∙ unopened log ev.act h))
+    (openings_unmoved log (effect configs log ev) (ap (λ b. are_apart (kinds_of b) exchange_kinds) (effect-act configs log ev) ∙ unopened log ev.act h))
     (drops_none-act log (effect configs log ev) (ap drops_none (effect-act configs log ev) ∙ undropped log ev.act h))

@@ -29,14 +29,16 @@ use Rattle.p2p_log_laws.proofs.Emptying.{line_gone}
 use Rattle.p2p_log_laws.proofs.LineShape.{left_gone}
 use Rattle.p2p_net_queues.proofs.Going.{put_in, line-append}
 use Rattle.p2p_net_connections.specs.Spawner.{refuses, told_row, spawned, given_back, released}
+use Rattle.p2p_net_connections.specs.Dialing.{IsReservedOver}
 use Rattle.p2p_net_connections.specs.SpawnerStands.{SpawnerStands}
 use Rattle.p2p_net_connections.specs.declared.spawner.Spawning.{Spawning}
 use Rattle.p2p_net_connections.proofs.SpawnerChanges.{spawner_kept, spawner_more}
 use Rattle.p2p_net_tracker.specs.Dialed.{asked_puts, names_asked}
+use Rattle.p2p_net_tracker.specs.GivenBack.{IsGivenBack}
 use Rattle.p2p_net_tracker.specs.Stands.{is_told}
 use Rattle.p2p_net_tracker.specs.declared.tracker.Tracker.{Tracker}
 use Rattle.p2p_net_tracker.proofs.Changes.{told_apart}
-use Rattle.p2p_net_tracker.proofs.Moved.{asked_line}
+use Rattle.p2p_net_tracker.proofs.Moved.{asked_line, IsAskedBack}
 use Rattle.p2p_net_tracker.proofs.ToldLines.{away_none}
 use Rattle.p2p_net.specs.Acts.{Asks}
 use Rattle.p2p_net.specs.Spawning.{release_item, Spawns}
@@ -69,6 +71,17 @@ abbrev pub spawner_after : ℕ → Handed → Spawning → Spawning
 spawner_after k nothing s = s
 spawner_after k (question i m) s = s
 spawner_after k (connection link m) s = spawned false k link m s
+
+-- what is handed on is of its side: what the entry gives back, and what the spawner is asked for
+abbrev pub IsOnItsSide : List Entry → Entry → ℕ → Handed → Type 0
+IsOnItsSide log e n nothing = Unit {0}
+IsOnItsSide log e n (question i m) = IsGivenBack (log ++ e ∷ []) (length log) m
+IsOnItsSide log e n (connection link m) = IsReservedOver log n link m
+
+pub asked_on_its_side : (log : List Entry) (e : Entry) (n : ℕ) (h : Handed) → IsOnItsSide log e n h → IsAskedBack (log ++ e ∷ []) (length log) (message_in h)
+asked_on_its_side log e n nothing h = tt
+asked_on_its_side log e n (question i m) h = h
+asked_on_its_side log e n (connection link m) h = tt
 
 -- the entry k did so at the node n, whose tracker's mailbox is this then
 pub record HandedOn (k n : ℕ) (h : Handed) (way : Mailbox Key) (old new : Node) (row after : Row) : Type 0 where
@@ -202,15 +215,16 @@ module _ (log : List Entry) (e : Entry) (n : ℕ) (h : Handed) (puts : e.puts �
   line_told p l own stay = line_elsewhere p l (told_apart n n p own) (told_unspawned n n p own) stay
 
   -- the spawner's mailbox stands for the log with this entry, of which no item of its queue goes
-  pub handed_spawner : (configs : List Config) (s : Spawning) → SpawnerStands configs log n s → kept (queue.Spawner n) ≡ line log (queue.Spawner n) → SpawnerStands configs (log ++ e ∷ []) n (spawner_after (length log) h s)
-  handed_spawner configs s stands stay = by h (line_after (queue.Spawner n) (line log (queue.Spawner n)) stay)
+  pub handed_spawner : (configs : List Config) (s : Spawning) → SpawnerStands configs log n s → IsOnItsSide log e n h → kept (queue.Spawner n) ≡ line log (queue.Spawner n)
+      → SpawnerStands configs (log ++ e ∷ []) n (spawner_after (length log) h s)
+  handed_spawner configs s stands right stay = by h right (line_after (queue.Spawner n) (line log (queue.Spawner n)) stay)
     where
-      by : (o : Handed) → line (log ++ e ∷ []) (queue.Spawner n) ≡ line log (queue.Spawner n) ++ filter (stands_in (queue.Spawner n)) (placed (length log) 0 (handed_puts n o))
+      by : (o : Handed) → IsOnItsSide log e n o → line (log ++ e ∷ []) (queue.Spawner n) ≡ line log (queue.Spawner n) ++ filter (stands_in (queue.Spawner n)) (placed (length log) 0 (handed_puts n o))
           → SpawnerStands configs (log ++ e ∷ []) n (spawner_after (length log) o s)
-      by nothing after = spawner_kept configs log e n s stands (after ∙ append-nil (line log (queue.Spawner n)))
-      by (question i m) after = spawner_kept configs log e n s stands (after ∙ append-nil (line log (queue.Spawner n)))
-      by (connection link m) after =
-          spawner_more configs log e n link (peer_of m) m s stands refl
+      by nothing on after = spawner_kept configs log e n s stands (after ∙ append-nil (line log (queue.Spawner n)))
+      by (question i m) on after = spawner_kept configs log e n s stands (after ∙ append-nil (line log (queue.Spawner n)))
+      by (connection link m) on after =
+          spawner_more configs log e n link (peer_of m) m s stands refl on
           (after
           ∙ ap (λ b. line log (queue.Spawner n) ++ cond b (record { entry = length log; place = 0; queue = queue.Spawner n; item = item.Spawn (peer_of m) link } ∷ []) []) (same_queue-refl (queue.Spawner n)))
 

@@ -34,6 +34,7 @@ use Rattle.p2p_log.specs.declared.event.Act.TheVariants as act
 use Rattle.p2p_log.specs.QueueCode.{same_queue}
 use Rattle.p2p_log.specs.Lines.{name_of, placed, goes, live, line, stays, stands_in}
 use Rattle.p2p_log.proofs.QueueNames.{queue_from_same}
+use Rattle.p2p_log_rules.proofs.Connections.{ends_untold}
 use Rattle.p2p_log_rules.specs.declared.row.Row.{Row}
 use Rattle.p2p_log_rules.specs.Facts.{taken}
 use Rattle.p2p_log_rules.specs.Dropping.{LinkEnd, handshake_drops}
@@ -44,12 +45,12 @@ use Rattle.p2p_log_rules.specs.Attempting.{left_ends, gone_on_row, ready_row}
 use Rattle.p2p_log_rules.specs.Handshakes.{ends_handshake, is_handshaking, is_finished, Peer, peer_at, source_at}
 use Rattle.p2p_log_rules.specs.Handshaking as log_rule
 use Rattle.p2p_log_rules.specs.Handshaking.{handshake_deadline, ended_row, exchanged_row}
-use Rattle.p2p_log_rules.specs.Links.{unless_dropped}
 use Rattle.p2p_log_rules.specs.Rows.{is_spawner_full}
+use Rattle.p2p_log_laws.proofs.HandedSides.{HandshakeDialed}
 use Rattle.p2p_net_queues.specs.Board.{held}
 use Rattle.p2p_net_queues.specs.Tables as table
 use Rattle.p2p_net_queues.proofs.Going.{first_left}
-use Rattle.p2p_net_listener.specs.Handshaking.{ready_over, served_by, TurnsHandshake, LeavesHandshakes, StepsHandshake}
+use Rattle.p2p_net_listener.specs.Handshaking.{ready_over, served_by, ends_left, TurnsHandshake, LeavesHandshakes, StepsHandshake}
 use Rattle.p2p_net_listener.specs.Handshaking as listening
 use Rattle.p2p_net_listener.specs.Stands.{facts_of, IsRunning, HandshakeIs, ListenerStands}
 use Rattle.p2p_net_listener.specs.declared.handshake.HandshakeStep.TheVariants as handshake
@@ -57,16 +58,19 @@ use Rattle.p2p_net_listener.proofs.Changes.{listener_same, listener_untouched, h
 use Rattle.p2p_net_listener.proofs.Handshakes.{facts_after}
 use Rattle.p2p_net_links.specs.Stands.{LinksStand}
 use Rattle.p2p_net_links.specs.declared.links.Links.{Links}
+use Rattle.p2p_net_connections.specs.Dialing.{IsReservedOver}
 use Rattle.p2p_net_connections.specs.Spawner.{refuses}
 use Rattle.p2p_net_connections.specs.SpawnerStands.{SpawnerStands}
 use Rattle.p2p_net_connections.proofs.SpawnerChanges.{spawner_refuses}
 use Rattle.p2p_net_tracker.specs.Dialed.{names_asked}
+use Rattle.p2p_net_tracker.specs.GivenBack.{IsGivenBack}
 use Rattle.p2p_net_tracker.specs.Handshaking.{handshake_step_row}
 use Rattle.p2p_net_queues.specs.Matching.{Match}
 use Rattle.p2p_net_tracker.specs.Stands.{IsToldHandshake, HandshakeStands, AreDistinct, TrackerStands}
 use Rattle.p2p_net_tracker.specs.declared.tracker.Tracker.{Tracker}
 use Rattle.p2p_net_tracker.proofs.Distinct.{distinct-with_line, distinct-ended}
 use Rattle.p2p_net_tracker.proofs.Facts.{source_at-longer}
+use Rattle.p2p_net_tracker.proofs.GivenBack.{given_now, handshake_gives}
 use Rattle.p2p_net_tracker.proofs.HandshakeSteps.{after_step, left_after, tracker_after_handshake, line_of-dropped, line_of-ended, line_of-dropped_ended}
 use Rattle.p2p_net_tracker.proofs.Moved.{asked_desk, IsAsked}
 use Rattle.p2p_net_tracker.proofs.Steps.{none_taken, first_taken}
@@ -76,12 +80,12 @@ use Rattle.p2p_net.specs.Stands.{PartStands, NodeStands}
 use Rattle.p2p_net.specs.declared.node.Node.{Node}
 use Rattle.p2p_net.proofs.DroppedEnds.{ended_with, dropped, goes_by, is_of_link, told_unlinked, unlinked_stay, LeavesLinks, end_by, DidBeside, performs_beside}
 use Rattle.p2p_net.proofs.EachPart.{AllOf, not_among-links}
-use Rattle.p2p_net.proofs.HandingOn.{Handed, nothing, question, connection, handed_puts, item_in, message_in, spawner_after, HandedOn, nothing_asked, question_asked, connection_refused, connection_asked}
+use Rattle.p2p_net.proofs.HandingOn.{Handed, nothing, question, connection, handed_puts, item_in, message_in, spawner_after, IsOnItsSide, asked_on_its_side, HandedOn, nothing_asked, question_asked, connection_refused, connection_asked}
 use Rattle.p2p_net.proofs.HandingOn.{all_gone, none_gone, handed_unlinked, line_asked, line_elsewhere, line_told, handed_spawner, tracker_after}
 use Rattle.p2p_net.proofs.Performing.{asked, Performs, is_quiet, IsStill, part_still}
 use Rattle.p2p_net.proofs.Shaken.{left_is, linked_elsewhere, named, no_end, broken_end, firsts, lost_by, Shaken, step_row}
 
-module _ (configs : List Config) (log : List Entry) (moment seed name n : ℕ) (x y : Node) (r : Row) (s : NodeStands configs log n x) (steps : Shakes (length log) n name moment x y r) where
+module _ (configs : List Config) (log : List Entry) (moment seed name n : ℕ) (x y : Node) (r : Row) (s : NodeStands configs log n x) (steps : Shakes (length log) n name moment x y r) (heard : HandshakeDialed log n name) where
   abbrev ev : Event
   ev = asked moment seed (act.Handshake name n)
 
@@ -241,7 +245,7 @@ module _ (configs : List Config) (log : List Entry) (moment seed name n : ℕ) (
         (λ hears. listener_same configs (log ++ e (only reply.Idle) ∷ []) n x.listening mid.listening hears
         (d.rest ∙ ap (λ b. record x.listening { actor = listening.freed_if b x.listening.actor; handshakes = mid.listening.handshakes; ends = mid.listening.ends }) is.runs)
         (λ k. d.others k ∙ (ap (λ b. cond (k == name) (cond b None (Some h)) (table.at x.listening.handshakes k)) is.runs ∙ unmoved (Some h) there k))
-        (λ k. d.ends k ∙ ap (λ b. unless_dropped b h.arrival.link (table.at x.listening.ends) k) is.runs))
+        (λ k. d.ends k ∙ ap (λ b. ends_left b h.arrival.link (table.at x.listening.ends) k) is.runs))
         (ap (λ o. keeps_by o (table.at x.listening.handshakes name))
         (ap (λ (z : Node). table.at z.listening.handshakes name) hands.1 ∙ (stands_now (idle_turn h m) d ∙ ap (λ b. cond b None (Some h)) is.runs)))
 
@@ -253,7 +257,7 @@ module _ (configs : List Config) (log : List Entry) (moment seed name n : ℕ) (
         (took_is : taken log (e due) ≡ items) (front : firsts waits ≡ items) (log_ends : ends_handshake due.reply items ≡ ended) (puts : due.puts ≡ handed_puts n o)
         (way_is : way ≡ record m { desk = asked_desk m.desk (message_in o); handshakes = way.handshakes })
         (waiting : (k : ℕ) → line_of way.handshakes k ≡ cond (k == name) (after_step ended (line_of m.handshakes name)) (line_of m.handshakes k))
-        (distinct : AreDistinct way.handshakes) (says : IsAsked x.tracker.tickets (log ++ e due ∷ []) (item_in o) (message_in o))
+        (distinct : AreDistinct way.handshakes) (says : IsAsked x.tracker.tickets (log ++ e due ∷ []) (item_in o) (message_in o)) (right : IsOnItsSide log (e due) n o)
         (stay : (p : Queue) → filter (stands_in p) (filter (stays (goes_by due)) (live log)) ≡ cond (same_queue q p) (left_after ended (line log p)) (line log p))
         (stands : HandshakeIs (facts_after items (facts_of configs log n name)) name (not ended) (cond T.actor.has_ended None (Some T.actor))) where
       -- what stays of a queue that is no link's
@@ -300,7 +304,7 @@ module _ (configs : List Config) (log : List Entry) (moment seed name n : ℕ) (
           (tracker_after_handshake configs log (e due) n name x.tracker y.tracker ended (item_in o) (message_in o) tracked
           (record {
             no_step = refl;
-            no_end = λ conn. refl;
+            no_end = λ conn. ends_untold log (e due) n conn (e due).event.act refl refl;
             no_question = refl;
             no_answer = λ k. refl;
             names = handshakes_stepped log (e due) n name items ended refl took_is log_ends;
@@ -308,6 +312,7 @@ module _ (configs : List Config) (log : List Entry) (moment seed name n : ℕ) (
             waiting = λ k. ap (λ (w : Mailbox Key). line_of w.handshakes k) on.mailbox ∙ waiting k;
             distinct = subst (λ (w : Mailbox Key). AreDistinct w.handshakes) (sym on.mailbox) distinct;
             says = says;
+            given = asked_on_its_side log (e due) n o right;
             mailbox = line_asked log (e due) n o puts (left_in (queue.Tracker n) refl);
             lines = λ p own. line_told log (e due) n o puts p (cond (same_queue q p) (left_after ended (line log p)) (line log p)) own (left_in p (told_unlinked n p own));
             told = λ p. ap (λ (w : Tracker). held w.told p) on.tracker ∙ (tracks.1.0 p ∙ ap (λ xs. if same_queue q p then xs else held x.tracker.told p) (left_is took ended moved (held x.tracker.told p)));
@@ -323,10 +328,10 @@ module _ (configs : List Config) (log : List Entry) (moment seed name n : ℕ) (
             rest = d.rest ∙ ap (λ b. record x.listening { actor = listening.freed_if b x.listening.actor; handshakes = mid.listening.handshakes; ends = mid.listening.ends }) over;
             others = d.others;
             stands = stands;
-            ends = λ k. d.ends k ∙ (ap (λ b. unless_dropped b T.actor.arrival.link (table.at x.listening.ends) k) over ∙ ap (λ w. unless_dropped ended w (table.at x.listening.ends) k) link);
+            ends = λ k. d.ends k ∙ (ap (λ b. ends_left b T.actor.arrival.link (table.at x.listening.ends) k) over ∙ ap (λ w. ends_left ended w (table.at x.listening.ends) k) link);
           })))
           (subst (SpawnerStands configs (log ++ e due ∷ []) n) (sym (on.spawner ∙ ap (spawner_after (length log) o) spawning_is))
-          (handed_spawner log (e due) n o puts configs x.spawning spawns (left_in (queue.Spawner n) refl)))
+          (handed_spawner log (e due) n o puts configs x.spawning spawns right (left_in (queue.Spawner n) refl)))
           (links_left due o (λ p. left_after ended (line log p)) puts stay)
           in
           record { did = did; took = took_same due_is; keeps = keeps_same due_is (ap (λ (z : Node). table.at z.listening.handshakes name) on.rest) }
@@ -340,7 +345,7 @@ module _ (configs : List Config) (log : List Entry) (moment seed name n : ℕ) (
         (λ same hands. nothing_asked (length log) n way mid y steps.taken r same hands)
         row_is (ap (handshake_step_row false true) none) refl (none_taken log (e due) refl) (ap firsts none) refl refl refl
         (λ k. ap (λ j. line_of (ended m.handshakes j) k) is.name ∙ line_of-ended m.handshakes name k tracked.distinct) (distinct-ended m.handshakes h.name tracked.distinct)
-        tt (none_gone log q [] none) refl
+        tt tt (none_gone log q [] none) refl
 
     -- its oldest item is taken
     module _ (z : Envelope) (zs : List Envelope) (first : waits ≡ z ∷ zs) where
@@ -353,8 +358,8 @@ module _ (configs : List Config) (log : List Entry) (moment seed name n : ℕ) (
       front_is : (i : Item) → z.item ≡ i → firsts waits ≡ i ∷ []
       front_is i said = ap firsts first ∙ ap (λ j. j ∷ []) said
 
-      due_is : (i : Item) → z.item ≡ i → log_rule.handshake_row configs log name n moment ≡ log_rule.took_row n full name peer (name_of z) i zs
-      due_is i said = row_by true (z ∷ zs) runs first ∙ ap (λ j. log_rule.took_row n full name peer (name_of z) j zs) said
+      due_is : (i : Item) → z.item ≡ i → log_rule.handshake_row configs log name n moment ≡ log_rule.handshake_took_row n full name peer (name_of z) i zs
+      due_is i said = row_by true (z ∷ zs) runs first ∙ ap (λ j. log_rule.handshake_took_row n full name peer (name_of z) j zs) said
 
       -- what is left where it goes on
       rest_left : (p : Queue) → filter (stands_in p) (filter (stays (name_of z ∷ [])) (live log)) ≡ cond (same_queue q p) (drop 1 (line log p)) (line log p)
@@ -378,33 +383,48 @@ module _ (configs : List Config) (log : List Entry) (moment seed name n : ℕ) (
       over o = record { reply = reply.Ok; takes = name_of z ∷ []; puts = handed_puts n o; ends = left_ends zs }
 
       ends_here : (i : Item) (done : Outcome Key) (o : Handed) → z.item ≡ i → turn ≡ ends input.Item done h way_left → ends_handshake reply.Ok (i ∷ []) ≡ true
-          → log_rule.took_row n full name peer (name_of z) i zs ≡ over o
+          → log_rule.handshake_took_row n full name peer (name_of z) i zs ≡ over o
           → (mid.tracker.mailbox ≡ ended_left → HandsOn (ready_over h.arrival.link done) (length log) n None mid y steps.taken r
           → HandedOn (length log) n o (record ended_left { desk = asked_desk m.desk (message_in o) }) mid y steps.taken r)
-          → IsAsked x.tracker.tickets (log ++ e (over o) ∷ []) (item_in o) (message_in o) → Done
-      ends_here i done o said so ending row_is handed says =
+          → IsAsked x.tracker.tickets (log ++ e (over o) ∷ []) (item_in o) (message_in o) → IsOnItsSide log (e (over o)) n o → Done
+      ends_here i done o said so ending row_is handed says on =
           served_performs (ends input.Item done h way_left) true true None (ready_over h.arrival.link done) o (record ended_left { desk = asked_desk m.desk (message_in o) }) (i ∷ []) (over o) so refl refl is.link
           handed (due_is i said ∙ row_is) (ap (λ xs. record (handshake_step_row true true xs) { puts = handed_puts n o }) first) refl (taken_is i (over o) said refl) (front_is i said) ending refl refl
           (λ k. ap (λ j. line_of (ended (with_line m.handshakes j (drop 1)) j) k) is.name ∙ line_of-dropped_ended m.handshakes name k tracked.distinct)
-          (distinct-ended way_left.handshakes h.name distinct_left) says
+          (distinct-ended way_left.handshakes h.name distinct_left) says on
           (all_gone log q z zs first) refl
 
       -- without a connection
       refused : (i : Item) → z.item ≡ i → turn ≡ ends input.Item outcome.Ended h way_left → ends_handshake reply.Ok (i ∷ []) ≡ true
-          → log_rule.took_row n full name peer (name_of z) i zs ≡ ended_row (name_of z ∷ []) zs → Done
+          → log_rule.handshake_took_row n full name peer (name_of z) i zs ≡ ended_row (name_of z ∷ []) zs → Done
       refused i said so ending row_is =
-          ends_here i outcome.Ended nothing said so ending row_is (λ same hands. nothing_asked (length log) n ended_left mid y steps.taken r same hands) tt
+          ends_here i outcome.Ended nothing said so ending row_is (λ same hands. nothing_asked (length log) n ended_left mid y steps.taken r same hands) tt tt
 
       -- with a reservation, by which a connection is made unless the spawner is full
-      by_room : (b : Bool) (reserved : Metadata Key) → full ≡ b → z.item ≡ item.Listen (Some (peer_of reserved)) → turn ≡ ends input.Item (outcome.Ready reserved) h way_left → Done
-      by_room true reserved is_full said so =
-          ends_here (item.Listen (Some (peer_of reserved))) (outcome.Ready reserved) (question (item.Release (peer_of reserved)) (message.Release reserved)) said so refl
-          (ap (λ b. ready_row n b (peer_of reserved) peer.link (name_of z) zs) is_full)
-          (λ same hands. connection_refused (length log) n ended_left mid y steps.taken r same h.arrival.link reserved hands (refuses_is ∙ is_full)) (reserved, refl, refl)
-      by_room false reserved room said so =
-          ends_here (item.Listen (Some (peer_of reserved))) (outcome.Ready reserved) (connection h.arrival.link reserved) said so refl
-          (ap (λ b. ready_row n b (peer_of reserved) peer.link (name_of z) zs) room ∙ ap (λ w. ready_row n false (peer_of reserved) w (name_of z) zs) (sym is.link))
-          (λ same hands. connection_asked (length log) n ended_left mid y steps.taken r same h.arrival.link reserved hands (refuses_is ∙ room)) tt
+      module _ (key : Key) (said : z.item ≡ item.Listen (Some key)) where
+        abbrev reserved : Metadata Key
+        reserved = metadata.Listener key
+
+        abbrev back : Handed
+        back = question (item.Release key) (message.Release reserved)
+
+        given : IsGivenBack (log ++ e (over back) ∷ []) (length log) (message.Release reserved)
+        given =
+            given_now log (e (over back)) reserved
+            (handshake_gives log (e (over back)) n name refl (ap (ends_handshake reply.Ok) (taken_is (item.Listen (Some key)) (over back) said refl)))
+
+        over_link : IsReservedOver log n h.arrival.link reserved
+        over_link = subst (λ w. IsReservedOver log n w reserved) (sym is.link) (heard key z zs runs first said)
+
+        by_room : (b : Bool) → full ≡ b → turn ≡ ends input.Item (outcome.Ready reserved) h way_left → Done
+        by_room true is_full so =
+            ends_here (item.Listen (Some key)) (outcome.Ready reserved) back said so refl
+            (ap (λ b. ready_row n b key peer.link (name_of z) zs) is_full)
+            (λ same hands. connection_refused (length log) n ended_left mid y steps.taken r same h.arrival.link reserved hands (refuses_is ∙ is_full)) (reserved, refl, refl) given
+        by_room false room so =
+            ends_here (item.Listen (Some key)) (outcome.Ready reserved) (connection h.arrival.link reserved) said so refl
+            (ap (λ b. ready_row n b key peer.link (name_of z) zs) room ∙ ap (λ w. ready_row n false key w (name_of z) zs) (sym is.link))
+            (λ same hands. connection_asked (length log) n ended_left mid y steps.taken r same h.arrival.link reserved hands (refuses_is ∙ room)) tt over_link
 
       -- its peer may connect
       accepted : z.item ≡ item.Acceptable true → turn ≡ goes_on input.Item (record h { is_accepted = true }) way_left → Done
@@ -413,7 +433,7 @@ module _ (configs : List Config) (log : List Entry) (moment seed name n : ℕ) (
           let items : List Item = item.Acceptable true ∷ [] in
           served_performs (goes_on input.Item (record h { is_accepted = true }) way_left) true false None None nothing way_left items due so (ap (λ b. handshake.Served true b None None) is.runs) is.runs is.link
           (λ same hands. nothing_asked (length log) n way_left mid y steps.taken r same hands)
-          (due_is (item.Acceptable true) said) (ap (handshake_step_row true false) first) refl (taken_is (item.Acceptable true) due said refl) (front_is (item.Acceptable true) said) refl refl refl one_dropped distinct_left tt rest_left
+          (due_is (item.Acceptable true) said) (ap (handshake_step_row true false) first) refl (taken_is (item.Acceptable true) due said refl) (front_is (item.Acceptable true) said) refl refl refl one_dropped distinct_left tt tt rest_left
           (subst (λ b. HandshakeIs (facts_after items (facts_of configs log n name)) name true (cond b None (Some (record h { is_accepted = true })))) (sym is.runs)
           (refl, record { name = is.name; deadline = is.deadline; accepted = refl; finished = is.finished; key = is.key; link = is.link; source = is.source; runs = is.runs; works = is.works }))
 
@@ -430,7 +450,7 @@ module _ (configs : List Config) (log : List Entry) (moment seed name n : ℕ) (
           (λ same hands. question_asked (length log) n way mid y steps.taken r same asking told hands)
           (due_is (item.Finished true) said ∙ (ap (λ j. exchanged_row n j peer.key (name_of z)) (sym is.name) ∙ ap (λ w. exchanged_row n h.name w (name_of z)) (sym is.key)))
           (ap (λ xs. record (handshake_step_row true false xs) { puts = (queue.Tracker n, asking) ∷ [] }) first) refl (taken_is (item.Finished true) due said refl) (front_is (item.Finished true) said) refl refl refl one_dropped distinct_left
-          (h.arrival.from.ip, ap (source_at (log ++ e due ∷ [])) is.name ∙ source_at-longer log (e due ∷ []) name h.arrival.from.ip is.source, refl) rest_left
+          (h.arrival.from.ip, ap (source_at (log ++ e due ∷ [])) is.name ∙ source_at-longer log (e due ∷ []) name h.arrival.from.ip is.source, refl) tt rest_left
           (subst (λ b. HandshakeIs (facts_after items (facts_of configs log n name)) name true (cond b None (Some (record h { is_finished = true })))) (sym is.runs)
           (refl, record { name = is.name; deadline = is.deadline; accepted = is.accepted; finished = refl; key = is.key; link = is.link; source = is.source; runs = is.runs; works = is.works }))
 
@@ -439,7 +459,7 @@ module _ (configs : List Config) (log : List Entry) (moment seed name n : ℕ) (
       by_item (item.Acceptable false) a said so told = refused (item.Acceptable false) said (so ∙ ap (λ b. item_turn b h way_left) told) refl refl
       by_item (item.Finished true) a said so told = exchanged said (so ∙ ap (λ b. item_turn b h way_left) told)
       by_item (item.Finished false) a said so told = refused (item.Finished false) said (so ∙ ap (λ b. item_turn b h way_left) told) refl refl
-      by_item (item.Listen (Some key)) a said so told = by_room full (metadata.Listener key) refl said (so ∙ ap (λ b. item_turn b h way_left) told)
+      by_item (item.Listen (Some key)) a said so told = by_room key said full refl (so ∙ ap (λ b. item_turn b h way_left) told)
       by_item (item.Listen None) a said so told = refused (item.Listen None) said (so ∙ ap (λ b. item_turn b h way_left) told) refl refl
       by_item _ a said so told = absurd told
 
@@ -475,11 +495,11 @@ module _ (configs : List Config) (log : List Entry) (moment seed name n : ℕ) (
 -- ---- with the end of its link
 
 pub handshake_performs : (configs : List Config) (log : List Entry) (moment seed name n : ℕ) (x y : Node) (l ls : Links) (r : Row) → NodeStands configs log n x → LinksStand configs log l
-    → HandshakeSteps (length log) n name moment x y l ls r → Performs configs log (asked moment seed (act.Handshake name n)) n y ls r
-handshake_performs configs log moment seed name n x y l ls r s t d =
+    → HandshakeDialed log n name → HandshakeSteps (length log) n name moment x y l ls r → Performs configs log (asked moment seed (act.Handshake name n)) n y ls r
+handshake_performs configs log moment seed name n x y l ls r s t heard d =
     let link : ℕ = (peer_at log name).link in
     let waits = line log (queue.Handshake n name) in
-    let h : Shaken configs log (asked moment seed (act.Handshake name n)) n name x y d.row = shaken configs log moment seed name n x y d.row s d.steps in
+    let h : Shaken configs log (asked moment seed (act.Handshake name n)) n name x y d.row = shaken configs log moment seed name n x y d.row s d.steps heard in
     performs_beside configs log (asked moment seed (act.Handshake name n)) n x y l ls named (lost_by log n name d.row) (log_rule.handshake_row configs log name n moment) d.row r
     (is_some (table.at y.listening.handshakes name) || list_any is_spawn d.row.puts) (link_over (table.at x.listening.handshakes name)) side.In s t refl refl
     (λ p out. not_among-links named p n out) h.did d.drops h.keeps

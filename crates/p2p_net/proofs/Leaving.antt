@@ -16,25 +16,29 @@ use Rattle.p2p_log.specs.Lines.{line, live, name_of, stays}
 use Rattle.p2p_log.proofs.Names.{AreApart-live_from, AreApart-filter}
 use Rattle.p2p_log_rules.specs.declared.row.Half.{Half}
 use Rattle.p2p_log_rules.specs.declared.row.Row.{Row}
-use Rattle.p2p_log_rules.specs.Connections.{live_half, live_connection, is_begun, is_running, half_at}
+use Rattle.p2p_log_rules.specs.Connections.{live_half, live_connection, is_begun, has_run, half_at}
 use Rattle.p2p_log_rules.specs.Effect.{other_side}
 use Rattle.p2p_log_rules.specs.Ending.{queues_with, left_by}
-use Rattle.p2p_log_rules.specs.Spawning.{connections_of}
+use Rattle.p2p_log_rules.specs.Dialed.{dialer_of}
+use Rattle.p2p_log_rules.specs.Spawning.{Spawned, connections_of}
 use Rattle.p2p_log_rules.proofs.Connections.{HalfParts, half_parts, is_live}
 use Rattle.p2p_log_laws.proofs.EndHeard.{names_ready}
 use Rattle.p2p_net_queues.specs.Tables as table
 use Rattle.p2p_net_router.specs.Stands.{StandsOver}
 use Rattle.p2p_net_router.specs.declared.router.Router.{Router}
 use Rattle.p2p_net_connections.specs.Connections.{spawned_on}
+use Rattle.p2p_net_connections.specs.Dialing.{IsReservedOver, IsConnectedBy}
 use Rattle.p2p_net_connections.specs.Stands.{ConnectionsStand}
 use Rattle.p2p_net_connections.specs.declared.connections.Connection.{Connection}
 use Rattle.p2p_net_links.specs.declared.links.Links.{Links}
+use Rattle.p2p_net_tracker.specs.GivenBack.{IsOfSide}
 use Rattle.p2p_net.specs.Ending.{EndsKept}
 use Rattle.p2p_net.specs.Places as place
 use Rattle.p2p_net.specs.Stands.{RouterStands, key_heard, NodeStands}
 use Rattle.p2p_net.specs.declared.node.Node.{Node}
 use Rattle.p2p_net.proofs.EndRows.{took_row}
 use Rattle.p2p_net.proofs.HaveLeft.{HaveLeft}
+use Rattle.p2p_net.proofs.Sides.{reserved_side}
 
 -- a connection of a node ends: of x and l, where it runs, this is taken, which leaves w and m, and its end makes y and links of them, with
 -- the row r
@@ -42,7 +46,7 @@ pub record Leaving (configs : List Config) (log : List Entry) (n conn : ℕ) (ha
   pub stands : NodeStands configs log n x
   pub has : live_half log n conn ≡ Some half
   pub begun : is_begun log n conn ≡ true
-  pub running : is_running log n conn ≡ true
+  pub running : has_run log n conn ≡ true
   -- nothing waits that tells its router that it has begun
   pub heard : Each (λ z. names_ready conn z.item ≡ false) (line log (queue.Router n))
   pub gone : HaveLeft configs log n conn half taken x w l m
@@ -92,6 +96,20 @@ module _ {configs : List Config} {log : List Entry} {n conn : ℕ} {half : Half}
   peer_is =
       let same : Some (peer_of t.connection.reservation) ≡ Some half.peer = ap (key_heard true) (sym (ap spawned_on t.found) ∙ connects.spawned conn) ∙ leads in
       ap (λ (o : Option Key). elim o [ None ↦ half.peer | Some k ↦ k ]) same
+
+  -- it goes over the link of its half
+  link_is : t.connection.link ≡ parts.connection.link
+  link_is =
+      let same : spawned_on (Some t.connection) ≡ Some parts.connection =
+      sym (ap spawned_on t.found) ∙ (connects.spawned conn ∙ (ap (λ b. cond b None (connections_of log n conn)) (is_live log n conn half t.has).lives ∙ parts.made)) in
+      ap (λ (o : Option Spawned). elim o [ None ↦ half.link | Some c ↦ c.link ]) same
+
+  -- and its reservation is of the side of that
+  pub side_is : IsOfSide (Some half.writes) t.connection.reservation
+  side_is =
+      let over : IsReservedOver log n t.connection.link t.connection.reservation = subst (IsConnectedBy log n) t.found (connects.reserved conn) in
+      subst (λ s. IsOfSide (Some s) t.connection.reservation) (sym (ap (λ (h : Half). h.writes) parts.is))
+      (reserved_side log n t.connection.link parts.dialer t.connection.reservation (ap (dialer_of log) link_is ∙ parts.dialed) over)
 
   -- ---- the node that keeps it no longer
 

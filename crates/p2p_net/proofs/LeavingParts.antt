@@ -22,6 +22,7 @@ use Rattle.p2p_log.proofs.Queues.{same_queue-sym}
 use Rattle.p2p_log_rules.specs.declared.row.Half.{Half}
 use Rattle.p2p_log_rules.specs.declared.row.Row.{Row}
 use Rattle.p2p_log_rules.proofs.Touches.{away}
+use Rattle.p2p_log_rules.proofs.Handshakes.{handshakes_of-apart}
 use Rattle.p2p_net_queues.specs.Board.{held}
 use Rattle.p2p_net_queues.specs.Lines.{HoldsLines}
 use Rattle.p2p_net_queues.specs.Tables as table
@@ -32,18 +33,18 @@ use Rattle.p2p_net_channels.proofs.Changes.{channels_frame}
 use Rattle.p2p_net_connections.specs.Stands.{ConnectionsStand}
 use Rattle.p2p_net_connections.specs.declared.connections.Connections.{Connections}
 use Rattle.p2p_net_connections.proofs.Ended.{connections_ended}
-use Rattle.p2p_net_listener.proofs.Changes.{handshakes_unmoved}
 use Rattle.p2p_net_links.specs.Stands.{LinksStand}
 use Rattle.p2p_net_links.specs.declared.links.Links.{Links}
 use Rattle.p2p_net_links.proofs.Ending.{DropsEnd}
 use Rattle.p2p_net_tracker.specs.Ending.{released_by, told_release}
+use Rattle.p2p_net_tracker.specs.GivenBack.{IsOfSide}
 use Rattle.p2p_net_tracker.specs.Stands.{is_told, TrackerStands}
 use Rattle.p2p_net_tracker.specs.declared.tracker.Tracker.{Tracker}
 use Rattle.p2p_net_tracker.proofs.EndSteps.{release_put, release_quiet, only_told, calls_rest, calls_lines, tracker_ended}
 use Rattle.p2p_net.specs.Places as place
 use Rattle.p2p_net.specs.declared.node.Node.{Node}
-use Rattle.p2p_net.proofs.Leaving.{Leaving, qs, flight, connects, peer_is, without_tracker, emptied_puts}
-use Rattle.p2p_net.proofs.LeavingEntry.{half_act, no_channel, no_tracker, no_question, no_answer, no_listener, no_send, no_close, entry, ends_only, ends_one, drops_end}
+use Rattle.p2p_net.proofs.Leaving.{Leaving, qs, flight, connects, peer_is, side_is, without_tracker, emptied_puts}
+use Rattle.p2p_net.proofs.LeavingEntry.{half_act, no_channel, no_tracker, no_question, no_answer, no_listener, no_send, no_close, entry, ends_only, frees_side, ends_one, drops_end}
 use Rattle.p2p_net.proofs.LeavingLines.{link_off, none_of, off_flight, put_none, stays_with, unmoved, held_gone, control_gone, ready_gone, flight_gone}
 use Rattle.p2p_net.proofs.Receivers.{sends_apart, closes_apart, admits_ended}
 
@@ -137,10 +138,11 @@ module _ {configs : List Config} {log : List Entry} {n conn : ℕ} {half : Half}
           no_step = no_tracker conn n sends;
           no_question = no_question conn n sends;
           no_answer = no_answer conn n why sends;
-          no_admission = handshakes_unmoved log e n (no_listener conn n sends);
+          no_admission = handshakes_of-apart log e n (no_listener conn n sends);
           ends = ends_only t at seed sends;
           rest = calls_rest (length log) 1 conn t.connection.reservation x.tracker t.kept.left.tracker y.tracker released low_is;
           mailbox = tracker_line;
+          side = subst (λ s. IsOfSide s t.connection.reservation) (sym (frees_side t at seed sends)) (side_is t);
           emptied = control_gone t at seed sends;
           told = λ p own other. unmoved t at seed sends p (told_apart p own other) (release_quiet log e n half.peer refl p own);
           lines = calls_lines (length log) 1 conn t.connection.reservation x.tracker t.kept.left.tracker y.tracker released (queue.Control n conn) low_lines;
@@ -154,8 +156,8 @@ module _ {configs : List Config} {log : List Entry} {n conn : ℕ} {half : Half}
           lines = λ k. unmoved t at seed sends (queue.Channel n k)
               (none_of t (queue.Channel n k) refl refl refl refl refl (off_flight t (queue.Channel n k) refl refl)) (put_none t at seed sends (queue.Channel n k) refl refl);
           admits = admits_ended configs log e n refl;
-          sends = sends_apart log e n (half_act sends conn n) refl (no_send conn n log sends);
-          closes = closes_apart e n (half_act sends conn n) refl (no_close conn n sends);
+          sends = sends_apart log e n (half_act sends conn n) refl (no_send conn n sends);
+          closes = closes_apart log e n (half_act sends conn n) refl (no_close conn n sends);
         })
 
     -- and an end of its link is dropped

@@ -1,5 +1,5 @@
 -- The router of a node once a connection of the node has ended, of which the router is told: it stands for the log with that entry.
-use Rattle.std.proofs.Common.{◌≡◌, ℕ, Bool, true, false, cond, List, [], ◌∷◌, ◌++◌, length, refl, ap, sym, subst, ◌∙◌, append-nil, Some, None}
+use Rattle.std.proofs.Common.{◌≡◌, ℕ, Bool, true, false, List, [], ◌∷◌, ◌++◌, length, refl, ap, sym, subst, ◌∙◌, append-nil, Some, None}
 use Rattle.std.specs.Prelude.{map, filter, ◌||◌, if◌then◌else◌}
 use Rattle.std.specs.List.{AllByRecursion as Each, list_any}
 use Rattle.std.specs.BTreeMap as tree
@@ -27,7 +27,6 @@ use Rattle.p2p_log.proofs.Each.{Each-weaker}
 use Rattle.p2p_log_rules.specs.declared.row.Half.{Half}
 use Rattle.p2p_log_rules.specs.declared.row.Row.{Row}
 use Rattle.p2p_log_rules.specs.Connections.{live_connection}
-use Rattle.p2p_log_rules.specs.Facts.{taken as items_taken}
 use Rattle.p2p_log_laws.proofs.Emptying.{drained_none}
 use Rattle.p2p_log_laws.proofs.EndHeard.{names_ready}
 use Rattle.p2p_net_router.specs.Batches.{all_of}
@@ -37,6 +36,7 @@ use Rattle.p2p_net_router.specs.Stands.{StandsOver, IsEnding}
 use Rattle.p2p_net_router.specs.declared.router.Router.{Router}
 use Rattle.p2p_net_router.proofs.Aside.{same_queue-other}
 use Rattle.p2p_net_router.proofs.AtEnd.{over_end}
+use Rattle.p2p_net_router.proofs.Unrouted.{unrouted_apart}
 use Rattle.p2p_net_links.specs.declared.links.Links.{Links}
 use Rattle.p2p_net.specs.Stands.{RouterStands, key_heard}
 use Rattle.p2p_net.specs.declared.node.Node.{Node}
@@ -167,7 +167,7 @@ module _ {configs : List Config} {log : List Entry} {n conn : ℕ} {half : Half}
 
     ending : (k : ℕ) → k ≡ n → IsEnding configs log e k conn half.peer
     ending k same = subst (λ j. IsEnding configs log e j conn half.peer) (sym same) (record {
-      no_step = ap (λ b. cond b (items_taken log e) []) (no_router conn n sends n);
+      no_step = unrouted_apart log e n (no_router conn n sends);
       no_channel = no_channel conn n configs sends n;
       no_start = no_start conn n sends n;
       ends = ends_only t at seed sends;

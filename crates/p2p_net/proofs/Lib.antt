@@ -57,6 +57,7 @@ pub mod Routers
 pub mod Running
 pub mod Sending
 pub mod Shaken
+pub mod Sides
 pub mod SpawnerStep
 pub mod Starts
 pub mod Stepping

@@ -1,6 +1,7 @@
 -- What a step of a node's listener comes to, but for the end of an arrival that it turns away.
 use Rattle.std.proofs.Common.{◌≡◌, ℕ, ◌+◌, Bool, true, false, cond, List, [], ◌∷◌, ◌++◌, map, drop, length, refl, ap, sym, subst, ◌∙◌, arith, append-nil, eq-eqb, length-append, Option, Some, None}
-use Rattle.std.specs.Prelude.{◌≤◌, slice_get}
+use Rattle.std.specs.Prelude.{◌≤◌, ◌==◌, slice_get}
+use Rattle.std.specs.Option.{option_map}
 use Rattle.std.proofs.lemmas.Option.{same_Some}
 use Rattle.p2p_base.specs.declared.key.Key.{Key}
 use Rattle.p2p_base.specs.Queue.{has_room}
@@ -33,18 +34,24 @@ use Rattle.p2p_log.specs.QueueCode.{same_queue}
 use Rattle.p2p_log.specs.Lines.{name_of, line}
 use Rattle.p2p_log.proofs.QueueNames.{queue_from_same}
 use Rattle.p2p_log.proofs.Queues.{same_queue-refl}
+use Rattle.p2p_log_rules.proofs.Connections.{ends_untold}
 use Rattle.p2p_log_rules.specs.declared.row.ListeningEnd.{ListeningEnd}
 use Rattle.p2p_log_rules.specs.declared.row.Row.{Row}
 use Rattle.p2p_log_rules.specs.Facts.{is_up, events_of, latest_moment, taken}
-use Rattle.p2p_log_rules.proofs.Listening.{IsJudged, known_of-late}
+use Rattle.p2p_log_rules.proofs.Listening.{took_known, IsJudged, known_of-late}
 use Rattle.p2p_log_rules.specs.Dropping.{arrival_end, oldest_end, arriving_end}
 use Rattle.p2p_log_rules.specs.Effect.{only, entry_of}
-use Rattle.p2p_log_rules.specs.Handshakes.{with_admitted, handshakes_by, handshakes_of, source_of, peer_of}
-use Rattle.p2p_log_rules.specs.Links.{listened}
+use Rattle.p2p_log_rules.specs.Handshakes.{handshakes_of, source_of, peer_of}
+use Rattle.p2p_log_rules.specs.Links.{listening_ends_of}
 use Rattle.p2p_log_rules.specs.Listening as log_rule
-use Rattle.p2p_log_rules.specs.Listening.{gate_rules_at, most_handshakes_at, took_known, known_of, gates_puts, told_row, listener_row}
+use Rattle.p2p_log_rules.specs.Listening.{gate_rules_at, most_handshakes_at, known_of, gates_puts, arrival_told_row, listener_row}
 use Rattle.p2p_log_rules.specs.Puts.{turns_away}
 use Rattle.p2p_log_rules.proofs.TakenAt.{taken_at-last}
+use Rattle.p2p_log_rules.specs.declared.row.ListeningEnd.TheVariants as listening_end
+use Rattle.p2p_log_rules.specs.Told.{admitted_as}
+use Rattle.p2p_log_rules.proofs.Handshakes.{handshakes_of-listened}
+use Rattle.p2p_log_rules.proofs.Links.{listening_ends_of-listened, listening_ends_of-taken}
+use Rattle.p2p_log_rules.proofs.Standing.{started}
 use Rattle.p2p_net_queues.specs.Board.{held}
 use Rattle.p2p_net_queues.specs.Tables as table
 use Rattle.p2p_net_queues.proofs.Going.{put_in, line-append, first_left}
@@ -52,7 +59,8 @@ use Rattle.p2p_net_listener.specs.Listening as listening
 use Rattle.p2p_net_listener.specs.Stands.{arrival_item, IsRunning, TellsNothing, ListenerStands}
 use Rattle.p2p_net_listener.specs.declared.listening.Took.{Took}
 use Rattle.p2p_net_listener.specs.declared.listening.Took.TheVariants as takes
-use Rattle.p2p_net_listener.proofs.Changes.{listener_tells, listener_moved}
+use Rattle.p2p_net_listener.proofs.Changes.{listener_moved}
+use Rattle.p2p_net_listener.proofs.Leaving.{listener_tells}
 use Rattle.p2p_net_listener.proofs.Handshakes.{facts_begun, AreKept, handshakes_kept, handshakes_begun}
 use Rattle.p2p_net_tracker.specs.Dialed.{taken_names}
 use Rattle.p2p_net_tracker.specs.Stands.{is_told, HeardStands, TrackerStands}
@@ -144,7 +152,17 @@ module _ (configs : List Config) (log : List Entry) (moment seed n : ℕ) (x y :
 
   -- its step tells no handshake anything
   tells_none : (due : Row) (j : ℕ) → TellsNothing log (e due) n j
-  tells_none due = listener_tells log (e due) n (eq-eqb n n refl)
+  tells_none due = listener_tells log (e due) n refl
+
+  -- it begins the handshake that it admits
+  begins : (due : Row) → handshakes_of (log ++ e due ∷ []) n ≡ hs ++ started (admitted_as k (e due).reply)
+  begins due = handshakes_of-listened log (e due) n refl
+
+  begins_none : (due : Row) → admitted_as k (e due).reply ≡ None → handshakes_of (log ++ e due ∷ []) n ≡ hs
+  begins_none due none = begins due ∙ (ap (λ o. hs ++ started o) none ∙ append-nil hs)
+
+  places_kept : (due : Row) → admitted_as k (e due).reply ≡ None → actor.places ≡ record { held = length (handshakes_of (log ++ e due ∷ []) n); max = most_handshakes_at configs n }
+  places_kept due none = listens.places ∙ ap (λ (names : List ℕ). record { held = length names; max = most_handshakes_at configs n }) (sym (begins_none due none))
 
   -- where both parts stand for the log with this entry
   performs : (due : Row) → listener_row configs log n moment ≡ due → r ≡ due → TrackerStands configs (log ++ e due ∷ []) n y.tracker → ListenerStands configs (log ++ e due ∷ []) n y.listening
@@ -158,13 +176,13 @@ module _ (configs : List Config) (log : List Entry) (moment seed n : ℕ) (x y :
       → listening.names_after T.stepped x.listening.names ≡ map name_of (line (log ++ e due ∷ []) (queue.Arrivals n))
       → map (λ (z : Envelope). z.item) (line (log ++ e due ∷ []) (queue.Arrivals n)) ≡ map arrival_item T.arrivals
       → T.known ≡ took_known rules moment items known
-      → T.places ≡ record { held = length (with_admitted k due.reply hs); max = most_handshakes_at configs n }
+      → T.places ≡ record { held = length (handshakes_of (log ++ e due ∷ []) n); max = most_handshakes_at configs n }
       → AreKept configs log (e due) n (log ++ e due ∷ []) (listening.handshakes_after T.stepped k x.listening.handshakes)
-      → ((j : ℕ) → listening.ends_after T.stepped k had j ≡ listened k due.reply items had j) → ListenerStands configs (log ++ e due ∷ []) n y.listening
+      → ((j : ℕ) → listening.ends_after T.stepped k had j ≡ listening_ends_of (log ++ e due ∷ []) n j) → ListenerStands configs (log ++ e due ∷ []) n y.listening
   hears_by due T items is took_is judged names waits knows places kept_now has =
       listener_moved configs log (e due) n x.listening y.listening items listens
       (record {
-        steps = eq-eqb n n refl;
+        steps = refl;
         took = took_is;
         judged = judged;
         names = steps.names known listens.known ∙ (ap (λ (u : ListenerTurn Key). listening.names_after u.stepped x.listening.names) is ∙ names);
@@ -221,18 +239,19 @@ module _ (configs : List Config) (log : List Entry) (moment seed n : ℕ) (x y :
         (tracker_updated configs log (e due_update) n x.tracker y.tracker tracked
         (record {
           no_step = refl;
-          no_end = λ conn. refl;
+          no_end = λ conn. ends_untold log (e due_update) n conn (e due_update).event.act refl refl;
           no_question = refl;
           no_answer = λ d. refl;
-          no_admission = ap (λ b. cond b hs hs) (eq-eqb n n refl);
+          no_admission = begins_none due_update refl;
           rest = tracks.1.1 ∙ ap (λ w. record x.tracker { mailbox = w; told = y.tracker.told }) (way_is T_update turn_update);
           mailbox = line_update (queue.Tracker n);
           lines = λ p own. line_update p ∙ only_first p (same_queue (queue.Update n) p) refl;
           told = tracks.1.0;
         }))
         (hears_by due_update T_update (item.Addresses ips ∷ []) turn_update took_is tt
-        (listens.names ∙ ap (map name_of) (sym (line_update (queue.Arrivals n)))) (ap (map (λ (w : Envelope). w.item)) (line_update (queue.Arrivals n)) ∙ listens.items) refl listens.places
-        (handshakes_kept configs log (e due_update) n x.listening.handshakes (ap (λ b. cond b hs hs) (eq-eqb n n refl)) (tells_none due_update) listens.handshakes) (λ j. refl))
+        (listens.names ∙ ap (map name_of) (sym (line_update (queue.Arrivals n)))) (ap (map (λ (w : Envelope). w.item)) (line_update (queue.Arrivals n)) ∙ listens.items) refl (places_kept due_update refl)
+        (handshakes_kept configs log (e due_update) n x.listening.handshakes (begins_none due_update refl) (tells_none due_update) listens.handshakes)
+        (λ j. listens.ends j ∙ sym (listening_ends_of-listened log (e due_update) n n (item.Addresses ips ∷ []) refl took_is j)))
         (update_leaves log n z [] reply.Ok one) refl (drops_by (Some takes.Update) (what_is T_update turn_update))
 
     update_performs : Tracks what → Done
@@ -256,8 +275,9 @@ module _ (configs : List Config) (log : List Entry) (moment seed n : ℕ) (x y :
         let line_same : line (log ++ e due ∷ []) (queue.Arrivals n) ≡ arrivals = line-still log (e due) reply.Idle (queue.Arrivals n) still in
         performs due (row_by [] [] quiet none) nothing.0
         (subst (TrackerStands configs (log ++ e due ∷ []) n) (sym same) (part_still place.tracker configs log (e due) n x (act.Listener n) reply.Idle tracked refl refl still))
-        (hears_by due T [] turn_is (none_taken log (e due) refl) tt (listens.names ∙ ap (map name_of) (sym line_same)) (ap (map (λ (w : Envelope). w.item)) line_same ∙ listens.items) refl listens.places
-        (handshakes_kept configs log (e due) n x.listening.handshakes (ap (λ b. cond b hs hs) (eq-eqb n n refl)) (tells_none due) listens.handshakes) (λ j. refl))
+        (hears_by due T [] turn_is (none_taken log (e due) refl) tt (listens.names ∙ ap (map name_of) (sym line_same)) (ap (map (λ (w : Envelope). w.item)) line_same ∙ listens.items) refl (places_kept due refl)
+        (handshakes_kept configs log (e due) n x.listening.handshakes (begins_none due refl) (tells_none due) listens.handshakes)
+        (λ j. listens.ends j ∙ sym (listening_ends_of-listened log (e due) n n [] refl (none_taken log (e due) refl) j)))
         (idle_leaves log n reply.Idle) refl (drops_by None (what_is T turn_is))
 
     -- the oldest arrival is taken
@@ -273,7 +293,7 @@ module _ (configs : List Config) (log : List Entry) (moment seed n : ℕ) (x y :
           ∙ ap (λ (p : Places). rule.reply_to rules known (has_place p) a.from.ip moment) listens.places
 
       abbrev due : GatesReply → Row
-      due told = told_row n k (name_of z) a.key told
+      due told = arrival_told_row n k (name_of z) a.key told
 
       row_is : listener_row configs log n moment ≡ due told_by
       row_is = row_by [] (z ∷ zs) quiet first ∙ ap (log_rule.arrived_row rules known place_free n k moment (name_of z)) is
@@ -318,13 +338,13 @@ module _ (configs : List Config) (log : List Entry) (moment seed n : ℕ) (x y :
       told_lines told p own = line_away told p (told_unlinked n p own) (told_apart n n p own) ∙ ap (λ b. cond b zs (line log p)) (not_arrivals p own)
 
       -- the places of handshakes
-      places_told : (told : GatesReply) → places_after told actor.places ≡ record { held = length (with_admitted k (reply.Gates told) hs); max = most_handshakes_at configs n }
+      places_told : (told : GatesReply) → places_after told actor.places ≡ record { held = length (handshakes_of (log ++ e (due told) ∷ []) n); max = most_handshakes_at configs n }
       places_told gates.Admitted =
-          ap (λ (p : Places). record { held = p.held + 1; max = p.max }) listens.places ∙ ap (λ c. record { held = c; max = most_handshakes_at configs n }) (sym (length-append hs (k ∷ [])))
-      places_told gates.Private = listens.places
-      places_told gates.Unregistered = listens.places
-      places_told (gates.Limited i j) = listens.places
-      places_told gates.TooMany = listens.places
+          ap (λ (p : Places). record { held = p.held + 1; max = p.max }) listens.places ∙ ap (λ c. record { held = c; max = most_handshakes_at configs n }) (sym (ap length (begins (due gates.Admitted)) ∙ length-append hs (k ∷ [])))
+      places_told gates.Private = places_kept (due gates.Private) refl
+      places_told gates.Unregistered = places_kept (due gates.Unregistered) refl
+      places_told (gates.Limited i j) = places_kept (due (gates.Limited i j)) refl
+      places_told gates.TooMany = places_kept (due gates.TooMany) refl
 
       -- the arrival's name is taken, whatever it is told
       names_told : (told : GatesReply) → listening.names_after (T_told told).stepped x.listening.names ≡ drop 1 x.listening.names
@@ -340,10 +360,6 @@ module _ (configs : List Config) (log : List Entry) (moment seed n : ℕ) (x y :
       took_told gates.Unregistered name there = ap (listening.took_by (T_told gates.Unregistered).stepped) there
       took_told (gates.Limited i j) name there = ap (listening.took_by (T_told (gates.Limited i j)).stepped) there
       took_told gates.TooMany name there = ap (listening.took_by (T_told gates.TooMany).stepped) there
-
-      -- the handshakes then
-      admits_told : (told : GatesReply) → handshakes_by n log (e (due told)) hs ≡ with_admitted k (reply.Gates told) hs
-      admits_told told = ap (λ b. cond b (with_admitted k (reply.Gates told) hs) hs) (eq-eqb n n refl)
 
       itself : (c : ℕ) → c ≤ c
       itself c = omega arith
@@ -366,20 +382,23 @@ module _ (configs : List Config) (log : List Entry) (moment seed n : ℕ) (x y :
 
       kept_told : (told : GatesReply) → AreKept configs log (e (due told)) n (log ++ e (due told) ∷ []) (listening.handshakes_after (T_told told).stepped k x.listening.handshakes)
       kept_told gates.Admitted =
-          handshakes_begun configs log (e (due gates.Admitted)) n x.listening.handshakes (new_handshake k a actor.handshake_timeout moment) (admits_told gates.Admitted)
+          handshakes_begun configs log (e (due gates.Admitted)) n x.listening.handshakes (new_handshake k a actor.handshake_timeout moment) (begins (due gates.Admitted))
           (tells_none (due gates.Admitted)) (listens.untold k (itself k)) running listens.handshakes
-      kept_told gates.Private = handshakes_kept configs log (e (due gates.Private)) n x.listening.handshakes (admits_told gates.Private) (tells_none (due gates.Private)) listens.handshakes
-      kept_told gates.Unregistered = handshakes_kept configs log (e (due gates.Unregistered)) n x.listening.handshakes (admits_told gates.Unregistered) (tells_none (due gates.Unregistered)) listens.handshakes
-      kept_told (gates.Limited i j) = handshakes_kept configs log (e (due (gates.Limited i j))) n x.listening.handshakes (admits_told (gates.Limited i j)) (tells_none (due (gates.Limited i j))) listens.handshakes
-      kept_told gates.TooMany = handshakes_kept configs log (e (due gates.TooMany)) n x.listening.handshakes (admits_told gates.TooMany) (tells_none (due gates.TooMany)) listens.handshakes
+      kept_told gates.Private = handshakes_kept configs log (e (due gates.Private)) n x.listening.handshakes (begins_none (due gates.Private) refl) (tells_none (due gates.Private)) listens.handshakes
+      kept_told gates.Unregistered = handshakes_kept configs log (e (due gates.Unregistered)) n x.listening.handshakes (begins_none (due gates.Unregistered) refl) (tells_none (due gates.Unregistered)) listens.handshakes
+      kept_told (gates.Limited i j) = handshakes_kept configs log (e (due (gates.Limited i j))) n x.listening.handshakes (begins_none (due (gates.Limited i j)) refl) (tells_none (due (gates.Limited i j))) listens.handshakes
+      kept_told gates.TooMany = handshakes_kept configs log (e (due gates.TooMany)) n x.listening.handshakes (begins_none (due gates.TooMany) refl) (tells_none (due gates.TooMany)) listens.handshakes
 
       -- what has the link's listening end
-      ends_told : (told : GatesReply) (j : ℕ) → listening.ends_after (T_told told).stepped k had j ≡ listened k (reply.Gates told) (item.Arrival a.from a.key a.link ∷ []) had j
-      ends_told gates.Admitted j = refl
-      ends_told gates.Private j = refl
-      ends_told gates.Unregistered j = refl
-      ends_told (gates.Limited i m) j = refl
-      ends_told gates.TooMany j = refl
+      ends_told : (told : GatesReply) (j : ℕ) → listening.ends_after (T_told told).stepped k had j ≡ listening_ends_of (log ++ e (due told) ∷ []) n j
+      ends_told told j = changed told ∙ (ap (λ o. cond (j == a.link) (option_map listening_end.Handshake (admitted_as k (reply.Gates told))) o) (listens.ends j) ∙ sym (listening_ends_of-taken log (e (due told)) n a.from a.key a.link [] refl (took_is told) j))
+        where
+          changed : (told : GatesReply) → listening.ends_after (T_told told).stepped k had j ≡ cond (j == a.link) (option_map listening_end.Handshake (admitted_as k (reply.Gates told))) (had j)
+          changed gates.Admitted = refl
+          changed gates.Private = refl
+          changed gates.Unregistered = refl
+          changed (gates.Limited i m) = refl
+          changed gates.TooMany = refl
 
       early : known.latest ≤ moment
       early = let now : known.latest ≤ latest_moment (events_of log) = known_of-late n configs log in omega (arith, now, late)
@@ -422,7 +441,7 @@ module _ (configs : List Config) (log : List Entry) (moment seed n : ℕ) (x y :
       tracks_told told so tracks = subst Tracks (what_told told so) tracks
 
       -- one that a gate refuses: the tracker isn't asked
-      refused : (told : GatesReply) → turn ≡ T_told told → told_by ≡ told → (T_told told).way ≡ m → asked_for k a.key told ≡ None → gates_puts n k a.key told ≡ [] → with_admitted k (reply.Gates told) hs ≡ hs
+      refused : (told : GatesReply) → turn ≡ T_told told → told_by ≡ told → (T_told told).way ≡ m → asked_for k a.key told ≡ None → gates_puts n k a.key told ≡ [] → admitted_as k (reply.Gates told) ≡ None
           → Tracks what → Done
       refused told so by way nothing none nobody tracks =
           let it : Tracks (Some (takes.Arrival (name_of z) told (refused_for a.link told) None)) =
@@ -436,13 +455,13 @@ module _ (configs : List Config) (log : List Entry) (moment seed n : ℕ) (x y :
           (tracker_frame configs log (e (due told)) n x.tracker tracked
           (record {
             no_step = refl;
-            no_end = λ conn. refl;
+            no_end = λ conn. ends_untold log (e (due told)) n conn (e (due told)).event.act refl refl;
             no_question = refl;
             no_answer = λ d is_asked. refl;
             no_late_answer = λ d past. refl;
             mailbox = line_told told (queue.Tracker n) refl ∙ (ap (λ xs. line log (queue.Tracker n) ++ xs) alone ∙ append-nil (line log (queue.Tracker n)));
             told = told_lines told;
-            handshakes = admits_told told ∙ nobody;
+            handshakes = begins_none (due told) nobody;
           })))
 
       -- one that is admitted
@@ -459,10 +478,10 @@ module _ (configs : List Config) (log : List Entry) (moment seed n : ℕ) (x y :
           (tracker_asked configs log (e d) n x.tracker y.tracker a.key a.from.ip tracked
           (record {
             no_step = refl;
-            no_end = λ conn. refl;
+            no_end = λ conn. ends_untold log (e d) n conn (e d).event.act refl refl;
             no_question = refl;
             no_answer = λ q. refl;
-            admits = admits_told gates.Admitted;
+            admits = begins (due gates.Admitted);
             source_is = ap source_of (taken_at-last log (e d) ∙ took_is gates.Admitted);
             rest = it.1 ∙ ap (λ (u : Mailbox Key). record x.tracker { mailbox = u; names = x.tracker.names ++ (k, 0) ∷ [] }) (w ∙ sym (mailbox_now w));
             items = ap (λ (u : Mailbox Key). u.desk.messages.items) w ∙ kept_open m.desk.messages.closed (has_room m.desk.messages) m.desk.messages.items (message.Acceptable a.key a.from.ip k) open_mailbox;

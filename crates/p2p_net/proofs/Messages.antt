@@ -1,7 +1,6 @@
 -- What is common to the acts that offer a message: the list that is taken, whom it is offered to, and whom its quota admits.
-use Rattle.std.proofs.Common.{◌≡◌, ℕ, ◌≤◌, Bool, true, false, cond, List, [], ◌∷◌, ◌++◌, map, take, refl, ap, sym, subst, ◌∙◌, arith, eqb-true, Option, Some, None}
-use Rattle.std.specs.Prelude.{filter, ◌==◌, ◌&&◌, is_some}
-use Rattle.std.proofs.lemmas.Bool.Decides.{nat_tests}
+use Rattle.std.proofs.Common.{◌≡◌, ℕ, ◌≤◌, Bool, true, false, cond, List, [], ◌∷◌, ◌++◌, map, take, refl, ap, sym, subst, ◌∙◌, append-nil, Option, Some, None}
+use Rattle.std.specs.Prelude.{filter, ◌==◌, is_some}
 use Rattle.std.specs.List.{list_any}
 use Rattle.p2p_base.specs.declared.key.Key.{Key}
 use Rattle.p2p_log.specs.declared.config.Config.{Config}
@@ -17,10 +16,11 @@ use Rattle.p2p_log.specs.Lines.{name_of, stays, stands_in, live, line}
 use Rattle.p2p_log.proofs.Lines.{filter_stays-nil}
 use Rattle.p2p_log.proofs.Names.{AreApart-live_from}
 use Rattle.p2p_log_rules.specs.declared.row.Row.{Row}
-use Rattle.p2p_log_rules.specs.Admitting.{asked_for, asked_moments, moments_by, rate_at, sent_by, sent_moments, offered, keys_admitted, retry_moment}
-use Rattle.p2p_log_rules.specs.Checking.{checks_by, checked_at}
+use Rattle.p2p_log_rules.specs.Admitting.{keys_by, rate_at, sent_moments, offered, keys_admitted, retry_moment}
+use Rattle.p2p_log_rules.specs.Checking.{checked_at}
 use Rattle.p2p_log_rules.specs.Effect.{row, effect, takes_list}
-use Rattle.p2p_log_rules.specs.Facts.{events_of, latest_moment, registers_at, subscribers, routes, keys_in, peers_told}
+use Rattle.p2p_log_rules.specs.Facts.{events_of, latest_moment, registers_at, subscribers, routes, keys_in}
+use Rattle.p2p_log_rules.specs.Quotas.{at_places}
 use Rattle.p2p_log_rules.specs.Spawning.{steps_spawner}
 use Rattle.p2p_log_laws.specs.Listed.{ListsAreCurrent}
 use Rattle.p2p_net_router.specs.Peers.{names_taken}
@@ -101,18 +101,11 @@ mailbox_left log n c (recipients.Some ks) = ap (filter (stands_in (queue.Router 
 
 -- ---- an offer, by the log
 
--- whom an act asks the quota of its channel for
-pub asks_here : (n c d : ℕ) (to : Recipients) → cond ((n == n) && (c == d)) (Some to) None ≡ cond (d == c) (Some to) None
-asks_here n c d to = ap (λ b. cond b (Some to) None) (same n c d)
-  where
-    same : (n c d : ℕ) → ((n == n) && (c == d)) ≡ (d == c)
-    same n c d = grind (arith, nat_tests)
-
 -- at a channel that is not registered no quota is asked
 pub channels_unasked : (configs : List Config) (log : List Entry) (e : Entry) (n c : ℕ) (to : Recipients) (ch : Channels) → ChannelsStand configs log n ch → registers_at configs n e.event.act ≡ []
-    → ((d : ℕ) → asked_for n d e.event.act ≡ cond (d == c) (Some to) None) → AdmitsNone configs log e n
-    → ((d : ℕ) → line (log ++ e ∷ []) (queue.Channel n d) ≡ line log (queue.Channel n d)) → ((name : ℕ) → checks_by n log e (checked_at log n) name ≡ checked_at log n name)
-    → ClosesNone e n → capacity_at ch c ≡ None → ChannelsStand configs (log ++ e ∷ []) n ch
+    → ((d : ℕ) (k : Key) → sent_moments (log ++ e ∷ []) n d k ≡ sent_moments log n d k ++ cond (c == d) (at_places k e.event.at (keys_admitted log n c e.event.at (offered log n c to))) []) → AdmitsNone configs log e n
+    → ((d : ℕ) → line (log ++ e ∷ []) (queue.Channel n d) ≡ line log (queue.Channel n d)) → ((name : ℕ) → checked_at (log ++ e ∷ []) n name ≡ checked_at log n name)
+    → ClosesNone log e n → capacity_at ch c ≡ None → ChannelsStand configs (log ++ e ∷ []) n ch
 channels_unasked configs log e n c to ch s none asks admits lines checks closes has =
     channels_frame configs log e n ch s (record { registers = none; lines = lines; admits = admits; sends = record { moments = moments; checks = checks }; closes = closes })
   where
@@ -120,17 +113,18 @@ channels_unasked configs log e n c to ch s none asks admits lines checks closes 
     none_of None h = refl
     none_of (Some rate) h = absurd (cc)
 
-    no_rate : (d : ℕ) → (d == c) ≡ true → rate_at log n d ≡ None
-    no_rate d same =
-        none_of (rate_at log n d)
-        (sym (same_known configs log n d) ∙ ap (λ (o : Option ℕ). is_some o) (sym (s.capacities d) ∙ (ap (capacity_at ch) (eqb-true d c same) ∙ has)))
+    no_rate : rate_at log n c ≡ None
+    no_rate = none_of (rate_at log n c) (sym (same_known configs log n c) ∙ ap (λ (o : Option ℕ). is_some o) (sym (s.capacities c) ∙ has))
 
-    by : (d : ℕ) (k : Key) (b : Bool) → (d == c) ≡ b → asked_moments (rate_at log n d) e.event.at (peers_told log n d) (cond b (Some to) None) (sent_moments log n d) k ≡ sent_moments log n d k
-    by d k true same = ap (λ o. moments_by o e.event.at (offered log n d to) (sent_moments log n d) k) (no_rate d same)
-    by d k false other = refl
+    nobody : (b : Bool) (l : List ℕ) → l ++ cond b [] [] ≡ l
+    nobody true l = append-nil l
+    nobody false l = append-nil l
 
-    moments : (d : ℕ) (k : Key) → sent_by n d log e (sent_moments log n d) k ≡ sent_moments log n d k
-    moments d k = ap (λ o. asked_moments (rate_at log n d) e.event.at (peers_told log n d) o (sent_moments log n d) k) (asks d) ∙ by d k (d == c) refl
+    moments : (d : ℕ) (k : Key) → sent_moments (log ++ e ∷ []) n d k ≡ sent_moments log n d k
+    moments d k =
+        asks d k
+        ∙ (ap (λ o. sent_moments log n d k ++ cond (c == d) (at_places k e.event.at (keys_by o e.event.at (offered log n c to) (sent_moments log n c))) []) no_rate
+        ∙ nobody (c == d) (sent_moments log n d k))
 
 -- what it comes to at a registered channel
 pub record IsOffered (configs : List Config) (log : List Entry) (n c at : ℕ) (to : Recipients) (x mid : Node) (o : Offered) : Type 0 where

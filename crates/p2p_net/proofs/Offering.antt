@@ -12,11 +12,14 @@ use Rattle.p2p_log.specs.declared.event.Recipients.{Recipients}
 use Rattle.p2p_log.specs.declared.event.Act.{Act}
 use Rattle.p2p_log.specs.declared.event.Act.TheVariants as act
 use Rattle.p2p_log.specs.Lines.{stays, stands_in, live, line}
+use Rattle.p2p_log_rules.proofs.Connections.{ends_untold}
 use Rattle.p2p_log_rules.specs.declared.row.Row.{Row}
 use Rattle.p2p_log_rules.specs.Admitting.{offered, keys_admitted}
 use Rattle.p2p_log_rules.specs.Frames.{frame_of}
 use Rattle.p2p_log_rules.specs.Facts.{events_of, latest_moment, is_up}
 use Rattle.p2p_log_rules.specs.Effect.{only, taking, takes_list, row, effect, entry_of, sent_row, send_keys_row, router_capacity, limit_at, fitting_row}
+use Rattle.p2p_log_rules.proofs.Checks.{checked_at-apart}
+use Rattle.p2p_log_rules.proofs.Sends.{Asks, sent_moments-asked}
 use Rattle.p2p_log_laws.specs.Listed.{ListsAreCurrent}
 use Rattle.p2p_log_laws.proofs.Untouched.{line-untouched}
 use Rattle.p2p_net_router.specs.Holds.{after}
@@ -30,6 +33,7 @@ use Rattle.p2p_net_channels.specs.Stands.{ChannelsStand}
 use Rattle.p2p_net_channels.proofs.Checks.{checks_kept}
 use Rattle.p2p_net_channels.proofs.Senders.{channels_asked}
 use Rattle.p2p_net_router.proofs.Over.{over_gone, over_taking, sent_takes}
+use Rattle.p2p_net_router.proofs.Unrouted.{unrouted_apart}
 use Rattle.p2p_net_links.specs.Stands.{LinksStand}
 use Rattle.p2p_net_links.specs.declared.links.Links.{Links}
 use Rattle.p2p_net.specs.Offering.{is_refused, listed, FollowsOn, SendsBy, SendsOffered, Sends}
@@ -38,9 +42,9 @@ use Rattle.p2p_net.specs.Stands.{RouterStands, NodeStands}
 use Rattle.p2p_net.specs.declared.node.Node.{Node}
 use Rattle.p2p_net.specs.declared.offers.Offered.{Offered}
 use Rattle.p2p_net.proofs.EachPart.{not_among}
-use Rattle.p2p_net.proofs.Messages.{mailbox_left, asks_here, channels_unasked, IsOffered, is_offered, named, built}
+use Rattle.p2p_net.proofs.Messages.{mailbox_left, channels_unasked, IsOffered, is_offered, named, built}
 use Rattle.p2p_net.proofs.Performing.{asked, Performs, effect-still}
-use Rattle.p2p_net.proofs.Receivers.{admits_apart}
+use Rattle.p2p_net.proofs.Receivers.{admits_apart, closes_apart}
 use Rattle.p2p_net.proofs.Routers.{hears_aside, RouterStands-moved, RouterStands-idle}
 
 module _ (configs : List Config) (log : List Entry) (at seed n c : ℕ) (bytes : List ℕ) (priority : Bool) (to : Recipients) (x y : Node) (l links : Links) (r : Row) (s : NodeStands configs log n x) (t : LinksStand configs log l)
@@ -85,7 +89,8 @@ module _ (configs : List Config) (log : List Entry) (at seed n c : ℕ) (bytes :
   unfolding effect
   channels_now =
       channels_asked configs log e n x.channels x.channels.checks chan refl (admits_apart configs log e n a refl (λ d. refl)) (λ d. line-untouched configs log ev (queue.Channel n d) refl refl refl)
-      (checks_kept log e n x.channels.checks chan.checks (λ name. refl)) (λ d. refl) c at to (λ d. asks_here n c d to) refl late
+      (checks_kept log e n x.channels.checks chan.checks (λ name. checked_at-apart log e n name refl)) (closes_apart log e n a refl refl) c at to
+      (sent_moments-asked log e n c to (Asks.sends bytes priority refl)) refl late
 
   -- the router, once it was handed what the row puts
   router_now : (inner : Row) (new : Router) → row configs log at seed a ≡ taking names inner → inner.takes ≡ [] → StandsOver configs log new (after (length log) inner (filter (stays names) (live log)))
@@ -93,7 +98,7 @@ module _ (configs : List Config) (log : List Entry) (at seed n c : ℕ) (bytes :
   unfolding effect
   router_now inner new is none over number peers =
       RouterStands-moved configs log e n x.router new routes (hears_aside log e n a refl refl)
-      (subst (λ (z : Row). StandsFor configs (log ++ entry_of ev z ∷ []) new) (sym is) (over_taking configs log ev new names inner over (record { no_step = refl; no_channel = refl; no_start = refl; no_end = λ conn. refl }) none))
+      (subst (λ (z : Row). StandsFor configs (log ++ entry_of ev z ∷ []) new) (sym is) (over_taking configs log ev new names inner over (record { no_step = unrouted_apart log (entry_of ev (taking names inner)) new.number refl; no_channel = refl; no_start = refl; no_end = λ conn. ends_untold log (entry_of ev (taking names inner)) new.number conn a refl refl }) none))
       number peers
 
   -- or nothing
@@ -103,7 +108,7 @@ module _ (configs : List Config) (log : List Entry) (at seed n c : ℕ) (bytes :
   router_idle rep new is over number peers =
       RouterStands-moved configs log e n x.router new routes (hears_aside log e n a refl refl)
       (subst (λ (z : Row). StandsFor configs (log ++ entry_of ev z ∷ []) new) (sym is)
-      (over_gone configs log (entry_of ev (taking names (only rep))) new names over (record { no_step = refl; no_channel = refl; no_start = refl; no_end = λ conn. refl }) (append-nil names) refl))
+      (over_gone configs log (entry_of ev (taking names (only rep))) new names over (record { no_step = unrouted_apart log (entry_of ev (taking names (only rep))) new.number refl; no_channel = refl; no_start = refl; no_end = λ conn. ends_untold log (entry_of ev (taking names (only rep))) new.number conn a refl refl }) (append-nil names) refl))
       number peers
 
   module _ (mid : Node) (o : Offered) (row_now : Row) (h : IsOffered configs log n c at to x mid o) (is : r ≡ listed o.list row_now) where
@@ -162,14 +167,15 @@ module _ (configs : List Config) (log : List Entry) (at seed n c : ℕ) (bytes :
   -- on a channel that is not registered no quota is asked
   unregistered : capacity_at x.channels c ≡ None → ChannelsStand configs (log ++ e ∷ []) n x.channels
   unfolding effect
-  unregistered has = channels_unasked configs log e n c to x.channels chan refl (λ d. asks_here n c d to) (admits_apart configs log e n a refl (λ d. refl)) (λ d. line-untouched configs log ev (queue.Channel n d) refl refl refl) (λ name. refl) (λ d. refl) has
+  unregistered has = channels_unasked configs log e n c to x.channels chan refl (sent_moments-asked log e n c to (Asks.sends bytes priority refl)) (admits_apart configs log e n a refl (λ d. refl))
+      (λ d. line-untouched configs log ev (queue.Channel n d) refl refl refl) (λ name. checked_at-apart log e n name refl) (closes_apart log e n a refl refl) has
 
   gone : capacity_at x.channels c ≡ None → row configs log at seed a ≡ only reply.Gone → r ≡ only reply.Gone → y ≡ x → Done
   unfolding effect
   gone has is told same =
       let still = effect-still configs log ev reply.Gone is in
       done x.channels x.router (told ∙ sym is) same (unregistered has)
-      (RouterStands-idle configs log e n x.router (record { no_step = refl; no_channel = refl; no_start = refl; no_end = λ conn. refl }) (hears_aside log e n a refl refl) still.takes still.puts still.ends routes)
+      (RouterStands-idle configs log e n x.router (record { no_step = unrouted_apart log e n refl; no_channel = refl; no_start = refl; no_end = λ conn. ends_untold log e n conn a refl refl }) (hears_aside log e n a refl refl) still.takes still.puts still.ends routes)
 
   -- the row, by whether the channel is registered
   due_on : (p : Option ℕ) → capacity_at x.channels c ≡ p → row configs log at seed a ≡ elim p [ None ↦ only reply.Gone | Some _ ↦ taking names (send_keys_row configs log bytes c n priority keys admitted) ]

@@ -1,6 +1,7 @@
 -- What an act has to show at a node, and acts that move nothing.
-use Rattle.std.proofs.Common.{◌≡◌, ℕ, Bool, true, false, cond, List, [], ◌∷◌, ◌++◌, length, refl, ap, sym, subst, ◌∙◌, append-nil, Option, None}
-use Rattle.std.specs.Prelude.{map, filter, flat_map, ◌==◌, ◌&&◌, ◌||◌}
+use Rattle.std.proofs.Common.{◌≡◌, ℕ, Bool, true, false, cond, List, [], ◌∷◌, ◌++◌, length, refl, ap, sym, subst, ◌∙◌, append-nil, Option, None, ◌⊎◌, inl, inr}
+use Rattle.std.specs.Prelude.{filter, flat_map, ◌==◌, ◌&&◌, ◌||◌}
+use Rattle.p2p_log_rules.proofs.Bools.{and_false}
 use Rattle.p2p_log.specs.declared.config.Config.{Config}
 use Rattle.p2p_log.specs.declared.queue.Queue.{Queue}
 use Rattle.p2p_log.specs.declared.queue.Queue.TheVariants as queue
@@ -14,40 +15,51 @@ use Rattle.p2p_log.specs.declared.event.Act.TheVariants as act
 use Rattle.p2p_log.specs.Lines.{line, placed, ended_item, stands_in}
 use Rattle.p2p_log_rules.specs.declared.row.Row.{Row}
 use Rattle.p2p_log_rules.specs.Attempting.{Attempt, DialRules, dial_rules_at, attempts_of}
-use Rattle.p2p_log_rules.proofs.Attempts.{acted_attempts, Heeds, attempts_of-append, attempts_acted}
+use Rattle.p2p_log_rules.proofs.Connections.{steps_sender, steps_receiver, begins_act, ends_act}
+use Rattle.p2p_log_rules.specs.Tellings.{last_or}
+use Rattle.p2p_log_rules.specs.Told.{asks_list, answer_tells, ask_tells, told}
+use Rattle.p2p_log_rules.proofs.Attempts.{attempt_told}
+use Rattle.p2p_log_rules.proofs.Closing.{is_closed-kept}
+use Rattle.p2p_log_rules.proofs.AttemptTellings.{attempts_of-act, tries, attempts_of-kept, asks_told}
 use Rattle.p2p_log_rules.proofs.Dialing.{dials_of-still}
 use Rattle.p2p_log_rules.proofs.Dropping.{all_of, drops_none, drops_of-send, drops_of-receive}
 use Rattle.p2p_net_dialer.proofs.Changes.{dialer_frame}
 use Rattle.p2p_net_listener.proofs.Changes.{listener_frame}
-use Rattle.p2p_log_rules.specs.Closing.{closed_by}
-use Rattle.p2p_log_rules.specs.Connections.{half_at, steps_sender, is_done, is_answer, begins, steps_receiver, is_end, ends_connection}
+use Rattle.p2p_log_rules.specs.Connections.{half_at, is_done, begins, is_end, ends_connection}
 use Rattle.p2p_log_rules.specs.Dropping.{half_end}
-use Rattle.p2p_log_rules.specs.Facts.{starts, registers_at, taken, item_named, steps_router}
+use Rattle.p2p_log_rules.specs.Facts.{starts, registers_at, taken, item_named, with_named}
 use Rattle.p2p_log_rules.proofs.Spawning.{connections_of-untaken}
 use Rattle.p2p_log_rules.specs.Effect.{only, row, effect}
-use Rattle.p2p_log_rules.specs.Handshakes.{ends_handshake, steps_listener, acted_handshakes, handshakes_by, handshakes_of}
+use Rattle.p2p_log_rules.specs.Handshakes.{ends_handshake, handshakes_of, peer_at}
 use Rattle.p2p_log_rules.proofs.Listening.{known_of-untaken}
 use Rattle.p2p_log_rules.specs.Tracking.{steps_tracker}
-use Rattle.p2p_log_rules.specs.TrackerRows.{answers}
+use Rattle.p2p_log_rules.specs.TrackerRows.{takes_answer}
 use Rattle.p2p_net_tracker.specs.Stands.{asks_of}
 use Rattle.p2p_net_tracker.proofs.Changes.{tracker_frame}
 use Rattle.p2p_net_queues.proofs.Going.{line-kept}
+use Rattle.p2p_net_channels.specs.Stands.{ClosesNone}
 use Rattle.p2p_net_channels.proofs.Changes.{channels_frame}
+use Rattle.p2p_net_router.proofs.Unrouted.{unrouted_untaken}
 use Rattle.p2p_net_connections.proofs.Changes.{connections_frame}
 use Rattle.p2p_net_links.specs.Stands.{LinksStand}
 use Rattle.p2p_net_links.specs.declared.links.Links.{Links}
-use Rattle.p2p_net_links.proofs.Changes.{opens_none, OpensNone, openings_unmoved, is_ok_reply, openings_unanswered, links_frame}
+use Rattle.p2p_net_links.proofs.Changes.{OpensNone, openings_unmoved, is_ok_reply, openings_unanswered, links_frame}
 use Rattle.p2p_net_links.proofs.Drops.{DropsNone, is_idle_reply, drops_none-act, drops_none-idle}
-use Rattle.p2p_net_listener.proofs.Ends.{ends_quiet}
 use Rattle.p2p_net_listener.proofs.Handshakes.{nothing_tells}
 use Rattle.p2p_net_connections.proofs.SpawnerChanges.{spawner_kept}
 use Rattle.p2p_net.specs.Places.{Part, router, channels, connections, tracker, dialer, listener, spawner}
 use Rattle.p2p_net.specs.Stands.{PartStands, NodeStands, WorldStands}
 use Rattle.p2p_net.specs.declared.node.Node.{Node}
 use Rattle.p2p_net.proofs.ActKinds.{registers_unless, starts_unless}
-use Rattle.p2p_net.proofs.Receivers.{receives_nothing, admits_nothing, sends_at, sends_apart}
+use Rattle.p2p_net.proofs.Receivers.{receives_nothing, admits_nothing, SendsNothing, sends_apart, closes_apart}
 use Rattle.p2p_net.proofs.Routers.{HearsTheSame, hears_kept, RouterStands-idle}
 use Rattle.p2p_log_rules.proofs.Connections.{live_connection-kept}
+use Rattle.p2p_log_rules.specs.declared.row.ListeningEnd.{ListeningEnd}
+use Rattle.p2p_log_rules.specs.Links.{listening_ends_of}
+use Rattle.p2p_log_rules.proofs.Families.{kinds_of, are_apart}
+use Rattle.p2p_log_rules.proofs.Handshakes.{Begins, Ends, handshakes_now}
+use Rattle.p2p_log_rules.proofs.Links.{exchange_kinds, listening_kinds, listening_ends_of-apart, listening_ends_of-listened, listening_ends_of-shaken}
+use Rattle.p2p_tracker_calls.specs.declared.gates.Reply.TheVariants as gates
 
 -- an event with this act
 abbrev pub asked : ℕ → ℕ → Act → Event
@@ -109,53 +121,40 @@ quiet_starts n a r h = starts_unless n a (λ m is. let t : false ≡ true = sym 
 quiet_begins : (n conn : ℕ) (a : Act) (r : Reply) → is_quiet a r ≡ true → (steps_sender n conn a && is_done r) ≡ false
 quiet_begins n conn (act.SendStep d m) reply.Ok h = cc
 quiet_begins n conn (act.SendStep d m) _ h = and_false ((m == n) && (d == conn))
-  where
-    and_false : (b : Bool) → (b && false) ≡ false
-    and_false true = refl
-    and_false false = refl
 quiet_begins n conn _ r h = refl
 
-still_begins : (e : Entry) (n conn : ℕ) (a : Act) (rep : Reply) → e.event.act ≡ a → e.reply ≡ rep → is_quiet a rep ≡ true → begins n conn e ≡ false
-still_begins e n conn a rep is told q =
-    ap (λ b. steps_sender n conn b && is_done e.reply) is ∙ (ap (λ r. steps_sender n conn a && is_done r) told ∙ quiet_begins n conn a rep q)
+still_begins : (log : List Entry) (e : Entry) (n conn : ℕ) (a : Act) (rep : Reply) → e.event.act ≡ a → e.reply ≡ rep → is_quiet a rep ≡ true → begins n conn log e ≡ false
+still_begins log e n conn a rep is told q =
+    begins_act log e n conn a is ∙ (ap (λ r. steps_sender n conn a && is_done r) told ∙ quiet_begins n conn a rep q)
 
 -- and none ends
 quiet_ends : (n conn : ℕ) (a : Act) (r : Reply) → is_quiet a r ≡ true → ((steps_sender n conn a || steps_receiver n conn a) && is_end r) ≡ false
 quiet_ends n conn (act.SendStep d m) (reply.Ended why) h = cc
 quiet_ends n conn (act.SendStep d m) _ h = and_false (((m == n) && (d == conn)) || false)
-  where
-    and_false : (b : Bool) → (b && false) ≡ false
-    and_false true = refl
-    and_false false = refl
 quiet_ends n conn (act.RecvStep d m) (reply.Ended why) h = cc
 quiet_ends n conn (act.RecvStep d m) _ h = and_false ((m == n) && (d == conn))
-  where
-    and_false : (b : Bool) → (b && false) ≡ false
-    and_false true = refl
-    and_false false = refl
 quiet_ends n conn _ r h = refl
 
-still_ends : (e : Entry) (n conn : ℕ) (a : Act) (rep : Reply) → e.event.act ≡ a → e.reply ≡ rep → is_quiet a rep ≡ true → ends_connection n conn e ≡ false
-still_ends e n conn a rep is told q =
-    ap (λ b. (steps_sender n conn b || steps_receiver n conn b) && is_end e.reply) is
+still_ends : (log : List Entry) (e : Entry) (n conn : ℕ) (a : Act) (rep : Reply) → e.event.act ≡ a → e.reply ≡ rep → is_quiet a rep ≡ true → ends_connection n conn log e ≡ false
+still_ends log e n conn a rep is told q =
+    ends_act log e n conn a is
     ∙ (ap (λ r. (steps_sender n conn a || steps_receiver n conn a) && is_end r) told ∙ quiet_ends n conn a rep q)
 
 -- nothing is sent
-quiet_sends : (log : List Entry) (n : ℕ) (a : Act) (r : Reply) → is_quiet a r ≡ true → sends_at log n a ≡ false
-quiet_sends log n (act.Send bytes c m priority to) r h = cc
-quiet_sends log n (act.Check c m to) r h = cc
-quiet_sends log n (act.SendChecked bytes check priority) r h = cc
-quiet_sends log n _ r h = refl
+quiet_sends : (a : Act) (r : Reply) → is_quiet a r ≡ true → SendsNothing a
+quiet_sends (act.Send bytes c m priority to) r h = cc
+quiet_sends (act.Check c m to) r h = cc
+quiet_sends (act.SendChecked bytes check priority) r h = cc
+quiet_sends _ r h = (refl, refl)
 
 -- no reader is dropped
-quiet_closes : (n c : ℕ) (a : Act) (r : Reply) → is_quiet a r ≡ true → closed_by n c a r ≡ false
-quiet_closes n c (act.Close d m) reply.Ok h = cc
-quiet_closes n c (act.Close d m) _ h = and_false ((m == n) && (d == c))
+still_closes : (log : List Entry) (e : Entry) (n : ℕ) (a : Act) (rep : Reply) → e.event.act ≡ a → e.reply ≡ rep → is_quiet a rep ≡ true → ClosesNone log e n
+still_closes log e n (act.Close d m) rep is told q c = is_closed-kept log e n c m d is (ap (λ r. ((m == n) && (d == c)) && is_done r) told ∙ by rep q)
   where
-    and_false : (b : Bool) → (b && false) ≡ false
-    and_false true = refl
-    and_false false = refl
-quiet_closes n c _ r h = refl
+    by : (r : Reply) → is_quiet (act.Close d m) r ≡ true → (((m == n) && (d == c)) && is_done r) ≡ false
+    by reply.Ok q = cc
+    by _ q = and_false ((m == n) && (d == c))
+still_closes log e n a rep is told q c = closes_apart log e n a is refl c
 
 quiet_tracks : (n : ℕ) (a : Act) (r : Reply) → is_quiet a r ≡ true → steps_tracker n a ≡ false
 quiet_tracks n (act.Tracker m) r h = cc
@@ -165,7 +164,7 @@ quiet_asks : (n : ℕ) (a : Act) (r : Reply) → is_quiet a r ≡ true → asks_
 quiet_asks n (act.Ask what m) r h = cc
 quiet_asks n _ r h = refl
 
-quiet_answers : (d : ℕ) (a : Act) (r s : Reply) → is_quiet a r ≡ true → answers d a s ≡ false
+quiet_answers : (d : ℕ) (a : Act) (r s : Reply) → is_quiet a r ≡ true → takes_answer d a s ≡ false
 quiet_answers d (act.Answer e) r s h = cc
 quiet_answers d _ r s h = refl
 
@@ -173,46 +172,48 @@ either_same : {X : Type 0} (b : Bool) (d : X) → cond b d d ≡ d
 either_same true d = refl
 either_same false d = refl
 
--- nobody is admitted, and no handshake ends
-quiet_handshakes : (n name : ℕ) (r : Reply) (items : List Item) (a : Act) (names : List ℕ) → is_quiet a r ≡ true → acted_handshakes n name r items a names ≡ names
-quiet_handshakes n name reply.Idle items (act.Listener m) names h = either_same (m == n) names
-quiet_handshakes n name reply.Gone items (act.Listener m) names h = either_same (m == n) names
-quiet_handshakes n name _ items (act.Listener m) names h = cc
-quiet_handshakes n name reply.Idle items (act.Handshake e m) names h = either_same (m == n) names
-quiet_handshakes n name reply.Gone items (act.Handshake e m) names h = either_same (m == n) names
-quiet_handshakes n name _ items (act.Handshake e m) names h = cc
-quiet_handshakes n name r items _ names h = refl
-
 -- a step of a handshake with such a reply ends none
-quiet_shakes : (a : Act) (r : Reply) (h m : ℕ) → a ≡ act.Handshake h m → is_quiet a r ≡ true → ends_handshake r [] ≡ false
-quiet_shakes a r h m is q = by r (sym (ap (λ b. is_quiet b r) is) ∙ q)
-  where
-    by : (r : Reply) → is_quiet (act.Handshake h m) r ≡ true → ends_handshake r [] ≡ false
-    by reply.Ok q = cc
-    by _ q = refl
+quiet_shakes : (h m : ℕ) (r : Reply) (items : List Item) → is_quiet (act.Handshake h m) r ≡ true → ends_handshake r items ≡ false
+quiet_shakes h m reply.Idle items q = refl
+quiet_shakes h m reply.Gone items q = refl
+quiet_shakes h m _ items q = cc
 
-handshakes_still : (log : List Entry) (e : Entry) (n : ℕ) (a : Act) (rep : Reply) → e.event.act ≡ a → e.reply ≡ rep → is_quiet a rep ≡ true → handshakes_by n log e (handshakes_of log n) ≡ handshakes_of log n
-handshakes_still log e n a rep is told q =
-    let names = handshakes_of log n in
-    ap (λ b. acted_handshakes n (length log) e.reply (taken log e) b names) is
-    ∙ (ap (λ r. acted_handshakes n (length log) r (taken log e) a names) told ∙ quiet_handshakes n (length log) rep (taken log e) a names q)
+-- nobody is admitted, and no handshake ends
+handshakes_still : (log : List Entry) (e : Entry) (n : ℕ) (a : Act) (rep : Reply) → e.event.act ≡ a → e.reply ≡ rep → is_quiet a rep ≡ true → handshakes_of (log ++ e ∷ []) n ≡ handshakes_of log n
+handshakes_still log e n a rep is told q = by (handshakes_now log e n)
+  where
+    by : (handshakes_of (log ++ e ∷ []) n ≡ handshakes_of log n) ⊎ (Begins log e n ⊎ Ends log e n) → handshakes_of (log ++ e ∷ []) n ≡ handshakes_of log n
+    by (inl same) = same
+    by (inr (inl begins)) =
+        let quiet : false ≡ true = sym (ap (λ b. is_quiet b rep) (sym is ∙ begins.acts) ∙ ap (is_quiet (act.Listener n)) (sym told ∙ begins.replied)) ∙ q in cc
+    by (inr (inr ends)) =
+        let goes_on : ends_handshake rep (taken log e) ≡ false = quiet_shakes ends.name n rep (taken log e) (sym (ap (λ b. is_quiet b rep) (sym is ∙ ends.acts)) ∙ q) in
+        let over : ends_handshake rep (taken log e) ≡ true = ap (λ r. ends_handshake r (taken log e)) (sym told) ∙ ends.over in
+        cc
+
+-- nothing is taken, so no listening end changes hands
+ends_still : (log : List Entry) (e : Entry) (n : ℕ) (a : Act) (rep : Reply) → e.event.act ≡ a → e.reply ≡ rep → is_quiet a rep ≡ true → taken log e ≡ [] → (k : ℕ) → listening_ends_of (log ++ e ∷ []) n k ≡ listening_ends_of log n k
+ends_still log e n (act.Connect d from m to) rep is told q none k = cc
+ends_still log e n (act.Listener m) rep is told q none k = listening_ends_of-listened log e n m [] is none k
+ends_still log e n (act.Handshake h m) rep is told q none k =
+    let ends : ℕ → Option ListeningEnd = listening_ends_of log n in
+    listening_ends_of-shaken log e n h m is k
+    ∙ (ap (λ b. cond (m == n) (cond b (with_named (peer_at log h).link None ends k) (ends k)) (ends k)) (ap (λ r. ends_handshake r (taken log e)) told ∙ quiet_shakes h m rep (taken log e) q)
+    ∙ either_same (m == n) (ends k))
+ends_still log e n a rep is told q none k = listening_ends_of-apart log e n (ap (λ b. are_apart (kinds_of b) listening_kinds) is) k
 
 -- nothing is taken, so nothing is begun
-quiet_tries : (rules : DialRules) (n name at seed : ℕ) (a : Act) (r s : Reply) (puts : List (Queue × Item)) (attempts : ℕ → Option Attempt) (k : ℕ) → is_quiet a r ≡ true → acted_attempts rules n name at seed s [] puts a attempts k ≡ attempts k
-quiet_tries rules n name at seed (act.Dialer m) r s puts attempts k h = by (m == n)
-  where
-    by : (b : Bool) → cond b (attempts k) (attempts k) ≡ attempts k
-    by true = refl
-    by false = refl
-quiet_tries rules n name at seed (act.Attempt e m) r s puts attempts k h = cc
-quiet_tries rules n name at seed (act.Resolve addresses e m) r s puts attempts k h = cc
-quiet_tries rules n name at seed (act.Connect e from m to) r s puts attempts k h = cc
-quiet_tries rules n name at seed (act.Refuse e m) r s puts attempts k h = cc
-quiet_tries rules n name at seed _ r s puts attempts k h = refl
-
-quiet_heeds : (rules : DialRules) (n name at seed : ℕ) (a : Act) (r s : Reply) (items : List Item) (puts : List (Queue × Item)) (attempts : ℕ → Option Attempt) → is_quiet a r ≡ true → Heeds rules n name at seed s items puts a attempts
-quiet_heeds rules n name at seed (act.Attempt e m) r s items puts attempts h = absurd (let f : false ≡ true = h in cc)
-quiet_heeds rules n name at seed _ r s items puts attempts h = tt
+attempts_still : (configs : List Config) (log : List Entry) (e : Entry) (n k : ℕ) (a : Act) (r : Reply) → e.event.act ≡ a → is_quiet a r ≡ true → taken log e ≡ [] → attempts_of configs (log ++ e ∷ []) n k ≡ attempts_of configs log n k
+attempts_still configs log e n k (act.Dialer m) r is quiet none =
+    let rules : DialRules = dial_rules_at configs n in
+    attempts_of-act configs log e n k (act.Dialer m) is
+    ∙ (ap (λ items. attempt_told rules n k (answer_tells m (last_or 0 (asks_list m) (told log)) (length log) e.event.at e.event.seed items ++ ask_tells m e.event.at items e.puts) (attempts_of configs log n k)) none
+    ∙ asks_told rules n k [] m e.event.at [] e.puts (attempts_of configs log n k))
+attempts_still configs log e n k (act.Attempt d m) r is quiet none = cc
+attempts_still configs log e n k (act.Resolve addresses d m) r is quiet none = cc
+attempts_still configs log e n k (act.Connect d from m to) r is quiet none = cc
+attempts_still configs log e n k (act.Refuse d m) r is quiet none = cc
+attempts_still configs log e n k a r is quiet none = attempts_of-kept configs log e n k (ap (tries n) is)
 
 pub taken-none : (log : List Entry) (e : Entry) → e.takes ≡ [] → taken log e ≡ []
 unfolding taken
@@ -237,17 +238,17 @@ line-still log e rep q h =
 -- a router is to know of the same connections
 still_hears : (log : List Entry) (e : Entry) (n : ℕ) (a : Act) (rep : Reply) → e.event.act ≡ a → is_quiet a rep ≡ true → IsStill e rep → HearsTheSame log e n
 still_hears log e n a rep is q h =
-    hears_kept log e n (λ conn. still_begins e n conn a rep is h.reply q) (λ conn. still_ends e n conn a rep is h.reply q) (λ conn. connections_of-untaken log e n (taken-none log e h.takes) conn)
+    hears_kept log e n (λ conn. still_begins log e n conn a rep is h.reply q) (λ conn. still_ends log e n conn a rep is h.reply q) (λ conn. connections_of-untaken log e n (taken-none log e h.takes) conn)
 
 pub part_still : (p : Part) (configs : List Config) (log : List Entry) (e : Entry) (n : ℕ) (x : Node) (a : Act) (rep : Reply) → PartStands p configs log n x → e.event.act ≡ a → is_quiet a rep ≡ true → IsStill e rep
     → PartStands p configs (log ++ e ∷ []) n x
 part_still router configs log e n x a rep s is q h =
     RouterStands-idle configs log e n x.router
     (record {
-      no_step = ap (λ b. cond (steps_router n b) (taken log e) []) is ∙ either_nothing (steps_router n a) (taken log e) (taken-none log e h.takes);
+      no_step = unrouted_untaken log e n (taken-none log e h.takes);
       no_channel = ap (registers_at configs n) is ∙ quiet_registers configs n a rep q;
       no_start = ap (starts n) is ∙ quiet_starts n a rep q;
-      no_end = λ conn. still_ends e n conn a rep is h.reply q;
+      no_end = λ conn. still_ends log e n conn a rep is h.reply q;
     })
     (still_hears log e n a rep is q h) h.takes h.puts h.ends s
 part_still channels configs log e n x a rep s is q h =
@@ -256,17 +257,14 @@ part_still channels configs log e n x a rep s is q h =
       registers = ap (registers_at configs n) is ∙ quiet_registers configs n a rep q;
       lines = λ c. line-still log e rep (queue.Channel n c) h;
       admits = admits_nothing configs log e n (taken-none log e h.takes);
-      sends = sends_apart log e n a is (quiet_sends log n a rep q);
-      closes = λ c. ap (λ b. closed_by n c b e.reply) is ∙ (ap (closed_by n c a) h.reply ∙ quiet_closes n c a rep q);
+      sends = sends_apart log e n a is (quiet_sends a rep q);
+      closes = still_closes log e n a rep is h.reply q;
     })
 part_still connections configs log e n x a rep s is q h =
     connections_frame configs log e n x.connections s
     (record {
-      spawns = λ conn. live_connection-kept log e n conn (still_ends e n conn a rep is h.reply q) (connections_of-untaken log e n (taken-none log e h.takes) conn);
-      begins = record {
-        no_begin = λ conn. still_begins e n conn a rep is h.reply q;
-        no_answer = λ conn. ap (λ b. cond (steps_sender n conn b) (map is_answer (taken log e)) []) is ∙ either_nothing (steps_sender n conn a) (map is_answer (taken log e)) (ap (map is_answer) (taken-none log e h.takes));
-      };
+      spawns = λ conn. live_connection-kept log e n conn (still_ends log e n conn a rep is h.reply q) (connections_of-untaken log e n (taken-none log e h.takes) conn);
+      begins = λ conn. still_begins log e n conn a rep is h.reply q;
       receives = receives_nothing configs log e n (taken-none log e h.takes) (λ conn. line-still log e rep (queue.Held n conn) h);
       lines = λ conn. line-still log e rep (queue.Ready n conn) h;
     })
@@ -274,10 +272,10 @@ part_still tracker configs log e n x a rep s is q h =
     tracker_frame configs log e n x.tracker s
     (record {
       no_step = ap (steps_tracker n) is ∙ quiet_tracks n a rep q;
-      no_end = λ conn. still_ends e n conn a rep is h.reply q;
+      no_end = λ conn. still_ends log e n conn a rep is h.reply q;
       no_question = ap (asks_of n) is ∙ quiet_asks n a rep q;
-      no_answer = λ d asked. ap (λ b. answers d b e.reply) is ∙ quiet_answers d a rep e.reply q;
-      no_late_answer = λ d past. ap (λ b. answers d b e.reply) is ∙ quiet_answers d a rep e.reply q;
+      no_answer = λ d asked. ap (λ b. takes_answer d b e.reply) is ∙ quiet_answers d a rep e.reply q;
+      no_late_answer = λ d past. ap (λ b. takes_answer d b e.reply) is ∙ quiet_answers d a rep e.reply q;
       mailbox = line-still log e rep (queue.Tracker n) h;
       told = λ p own. line-still log e rep p h;
       handshakes = handshakes_still log e n a rep is h.reply q;
@@ -288,21 +286,14 @@ part_still dialer configs log e n x a rep s is q h =
     (record {
       no_start = ap (starts n) is ∙ quiet_starts n a rep q;
       dials = dials_of-still configs log e n (ap (starts n) is ∙ quiet_starts n a rep q) none h.puts;
-      tries = λ k.
-          let rules = dial_rules_at configs n in
-          let attempts = attempts_of configs log n in
-          attempts_of-append configs log e n k
-          ∙ (attempts_acted configs log e n k attempts
-          (subst (λ b. Heeds rules n (length log) e.event.at e.event.seed e.reply (taken log e) e.puts b attempts) (sym is) (quiet_heeds rules n (length log) e.event.at e.event.seed a rep e.reply (taken log e) e.puts attempts q))
-          ∙ (ap (λ b. acted_attempts rules n (length log) e.event.at e.event.seed e.reply (taken log e) e.puts b attempts k) is
-          ∙ (ap (λ l. acted_attempts rules n (length log) e.event.at e.event.seed e.reply l e.puts a attempts k) none ∙ quiet_tries rules n (length log) e.event.at e.event.seed a rep e.reply e.puts attempts k q)));
+      tries = λ k. attempts_still configs log e n k a rep is q none;
       lines = λ k. line-still log e rep (queue.Attempt n k) h;
     })
 part_still listener configs log e n x a rep s is q h =
     listener_frame configs log e n x.listening s
     (record {
       tells = λ k. nothing_tells log e n k (taken-none log e h.takes);
-      ends = ends_quiet log e n (taken-none log e h.takes) h.puts (λ j m acts. ap (λ r. ends_handshake r []) h.reply ∙ quiet_shakes a rep j m (sym is ∙ acts) q);
+      ends = ends_still log e n a rep is h.reply q (taken-none log e h.takes);
       known = known_of-untaken configs log e n (taken-none log e h.takes);
       handshakes = handshakes_still log e n a rep is h.reply q;
       arrivals = line-still log e rep (queue.Arrivals n) h;
@@ -317,7 +308,7 @@ quiet_opens log e (act.Finish link ok) rep is q told = openings_unanswered log e
     unanswered : (r : Reply) → is_quiet (act.Finish link ok) r ≡ true → is_ok_reply r ≡ false
     unanswered reply.Ok h = cc
     unanswered _ h = refl
-quiet_opens log e _ rep is q told = openings_unmoved log e (ap opens_none is)
+quiet_opens log e _ rep is q told = openings_unmoved log e (ap (λ b. are_apart (kinds_of b) exchange_kinds) is)
 
 -- a step of a listener or of a handshake
 abbrev steps_gate : Act → Bool

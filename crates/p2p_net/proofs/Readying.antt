@@ -4,6 +4,7 @@ use Rattle.std.specs.Prelude.{slice_get, nat_lt, nat_le, not, ◌&&◌, is_some}
 use Rattle.std.proofs.lemmas.Bool.{and_parts, not-true}
 use Rattle.std.proofs.lemmas.Option.{same_Some}
 use Rattle.std.proofs.lemmas.Bool.Decides.{nat_tests}
+use Rattle.p2p_log_rules.proofs.Bools.{and_false, and_true}
 use Rattle.p2p_log.specs.declared.config.Config.{Config}
 use Rattle.p2p_log.specs.declared.entry.Entry.{Entry}
 use Rattle.p2p_log.specs.declared.event.Rate.{Rate}
@@ -11,7 +12,6 @@ use Rattle.p2p_log.specs.declared.asked.Asked.TheVariants as ask
 use Rattle.p2p_log.specs.declared.event.Act.{Act}
 use Rattle.p2p_log.specs.declared.event.Act.TheVariants as act
 use Rattle.p2p_log_rules.specs.Facts.{events_of, has_started, is_up, key_at, registered, capacity_for, capacity_in, sum_capacities}
-use Rattle.p2p_log_rules.specs.Checking.{node_checking, checking_node}
 use Rattle.p2p_log_rules.specs.Effect.{mailbox_size_at, limit_at}
 use Rattle.p2p_log_rules.specs.Valid.{fits, sizes_fit, gates_fit, is_quota, fits_usize}
 use Rattle.p2p_log_rules.specs.Valid as valid
@@ -30,7 +30,7 @@ use Rattle.p2p_net_listener.proofs.Changes.{place_held}
 use Rattle.p2p_log_rules.specs.declared.row.Opening.{Opening}
 use Rattle.p2p_net_queues.specs.Tables as table
 use Rattle.p2p_net_links.specs.Stands.{LinksStand}
-use Rattle.p2p_net.specs.Places.{asked_node, or_first, node_asked, linked_by, nodes_linked, node_of, other_of}
+use Rattle.p2p_net.specs.Places.{asked_node, or_first, node_asked, node_checking, linked_by, nodes_linked, node_of, other_of}
 use Rattle.p2p_net.proofs.LinkedNodes.{opening_made}
 use Rattle.p2p_net.specs.Ready.{is_started, capacity_by, may_register, names_spawner, checks, asks_set, subscribes, may_ask, may_at, may_act, IsReady, MayPerform, names_dialer, names_listener, is_link, links_attempt}
 use Rattle.p2p_net.specs.Meetings.{meeting_of, MeetsThere}
@@ -82,48 +82,40 @@ spawned_is [] n conn = refl
 spawned_is (e ∷ es) n zero = refl
 spawned_is (e ∷ es) n (suc i) = spawned_is es n i
 
-and-true : (b : Bool) → (b && true) ≡ b
-and-true true = refl
-and-true false = refl
-
-and-false : (b : Bool) → (b && false) ≡ false
-and-false true = refl
-and-false false = refl
-
 -- a question for a peer set names a node
 set_is : (configs : List Config) (log : List Entry) (e : ℕ)
     → (nat_lt (node_asked (slice_get log e)) (length configs) && asks_set (slice_get log e)) ≡ valid.is_node configs (valid.set_asked_of (slice_get (events_of log) e))
-set_is configs [] e = and-false (nat_lt 0 (length configs))
+set_is configs [] e = and_false (nat_lt 0 (length configs))
 set_is configs (d ∷ ds) zero = by d.event.act
   where
     by : (a : Act) → (nat_lt (or_first (asked_node a)) (length configs) && is_some (valid.set_asked_by a)) ≡ valid.is_node configs (valid.set_asked_by a)
-    by (act.Ask (ask.PeerSet index) n) = and-true (nat_lt n (length configs))
-    by (act.Ask _ n) = and-false (nat_lt n (length configs))
-    by _ = and-false (nat_lt 0 (length configs))
+    by (act.Ask (ask.PeerSet index) n) = and_true (nat_lt n (length configs))
+    by (act.Ask _ n) = and_false (nat_lt n (length configs))
+    by _ = and_false (nat_lt 0 (length configs))
 set_is configs (d ∷ ds) (suc i) = set_is configs ds i
 
 -- and so does a subscription
 subscription_is : (configs : List Config) (log : List Entry) (e : ℕ)
     → (nat_lt (node_asked (slice_get log e)) (length configs) && subscribes (slice_get log e)) ≡ valid.is_node configs (valid.subscribed_at (slice_get (events_of log) e))
-subscription_is configs [] e = and-false (nat_lt 0 (length configs))
+subscription_is configs [] e = and_false (nat_lt 0 (length configs))
 subscription_is configs (d ∷ ds) zero = by d.event.act
   where
     by : (a : Act) → (nat_lt (or_first (asked_node a)) (length configs) && is_some (valid.subscribed_by a)) ≡ valid.is_node configs (valid.subscribed_by a)
-    by (act.Ask ask.Subscribe n) = and-true (nat_lt n (length configs))
-    by (act.Ask ask.Blocked n) = and-true (nat_lt n (length configs))
-    by (act.Ask _ n) = and-false (nat_lt n (length configs))
-    by _ = and-false (nat_lt 0 (length configs))
+    by (act.Ask ask.Subscribe n) = and_true (nat_lt n (length configs))
+    by (act.Ask ask.Blocked n) = and_true (nat_lt n (length configs))
+    by (act.Ask _ n) = and_false (nat_lt n (length configs))
+    by _ = and_false (nat_lt 0 (length configs))
 subscription_is configs (d ∷ ds) (suc i) = subscription_is configs ds i
 
 -- a check names a node
 check_is : (configs : List Config) (log : List Entry) (e : ℕ)
-    → (nat_lt (checking_node log e) (length configs) && checks (slice_get log e)) ≡ valid.is_node configs (valid.checked_of (slice_get (events_of log) e))
-check_is configs [] e = and-false (nat_lt 0 (length configs))
+    → (nat_lt (node_checking (slice_get log e)) (length configs) && checks (slice_get log e)) ≡ valid.is_node configs (valid.checked_of (slice_get (events_of log) e))
+check_is configs [] e = and_false (nat_lt 0 (length configs))
 check_is configs (d ∷ ds) zero = by d.event.act
   where
-    by : (a : Act) → (nat_lt (node_checking a) (length configs) && is_some (valid.checked_by a)) ≡ valid.is_node configs (valid.checked_by a)
-    by (act.Check c n to) = and-true (nat_lt n (length configs))
-    by _ = and-false (nat_lt 0 (length configs))
+    by : (a : Act) → (nat_lt (or_first (valid.checked_by a)) (length configs) && is_some (valid.checked_by a)) ≡ valid.is_node configs (valid.checked_by a)
+    by (act.Check c n to) = and_true (nat_lt n (length configs))
+    by _ = and_false (nat_lt 0 (length configs))
 check_is configs (d ∷ ds) (suc i) = check_is configs ds i
 
 dialed_is : (log : List Entry) (n e : ℕ) → names_dialer n (slice_get log e) ≡ valid.names_dialer (events_of log) n e
@@ -131,10 +123,10 @@ dialed_is [] n e = refl
 dialed_is (d ∷ ds) n zero = refl
 dialed_is (d ∷ ds) n (suc i) = dialed_is ds n i
 
-listened_is : (log : List Entry) (e : ℕ) → names_listener (slice_get log e) ≡ valid.names_listener (events_of log) e
-listened_is [] e = refl
-listened_is (d ∷ ds) zero = refl
-listened_is (d ∷ ds) (suc i) = listened_is ds i
+listened_is : (log : List Entry) (n e : ℕ) → names_listener n (slice_get log e) ≡ valid.names_listener (events_of log) n e
+listened_is [] n e = refl
+listened_is (d ∷ ds) n zero = refl
+listened_is (d ∷ ds) n (suc i) = listened_is ds n i
 
 -- an event that links an attempt of a node to another
 linked_is : (configs : List Config) (log : List Entry) (link : ℕ)
@@ -152,7 +144,7 @@ linked_is configs (d ∷ ds) zero = by d.event.act
     nowhere false = refl
 
     by : (a : Act) → (nat_lt (linked_by a).dials (length configs) && (nat_lt (linked_by a).listens (length configs) && is_link a)) ≡ valid.links_nodes configs a
-    by (act.Connect e from n to) = ap (λ b. nat_lt n (length configs) && b) (and-true (nat_lt to (length configs)))
+    by (act.Connect e from n to) = ap (λ b. nat_lt n (length configs) && b) (and_true (nat_lt to (length configs)))
     by _ = nowhere (nat_lt 0 (length configs))
 linked_is configs (d ∷ ds) (suc i) = linked_is configs ds i
 
@@ -208,7 +200,7 @@ module _ (configs : List Config) (log : List Entry) (nodes : List Node) (links :
       (λ lt. asks (act.Start n) (not (has_started (events_of log) n)) lt (λ x t. ap (λ b. not b) (started_asked configs log n x t)))
       ∙ ap (λ b. b && not (has_started (events_of log) n)) (counted n)
   may_by (act.SendChecked bytes check priority) =
-      let n = checking_node log check in
+      let n = node_checking (slice_get log check) in
       there (nat_lt n (length nodes)) (may_at (slice_get nodes n) log (act.SendChecked bytes check priority)) (checks (slice_get log check))
       (λ lt. asks (act.SendChecked bytes check priority) (checks (slice_get log check)) lt (λ x t. refl))
       ∙ (ap (λ b. b && checks (slice_get log check)) (counted n) ∙ check_is configs log check)
@@ -229,9 +221,9 @@ module _ (configs : List Config) (log : List Entry) (nodes : List Node) (links :
       there (nat_lt n (length nodes)) (may_at (slice_get nodes n) log (act.Next e)) (subscribes (slice_get log e)) (λ lt. asks (act.Next e) (subscribes (slice_get log e)) lt (λ x t. refl))
       ∙ (ap (λ b. b && subscribes (slice_get log e)) (counted n) ∙ subscription_is configs log e)
   may_by (act.Handshake e n) =
-      there (nat_lt n (length nodes)) (may_at (slice_get nodes n) log (act.Handshake e n)) (valid.names_listener (events_of log) e)
-      (λ lt. asks (act.Handshake e n) (valid.names_listener (events_of log) e) lt (λ x t. listened_is log e))
-      ∙ ap (λ b. b && valid.names_listener (events_of log) e) (counted n)
+      there (nat_lt n (length nodes)) (may_at (slice_get nodes n) log (act.Handshake e n)) (valid.names_listener (events_of log) n e)
+      (λ lt. asks (act.Handshake e n) (valid.names_listener (events_of log) n e) lt (λ x t. listened_is log n e))
+      ∙ ap (λ b. b && valid.names_listener (events_of log) n e) (counted n)
   may_by (act.Attempt e n) = of_dialer n e (act.Attempt e n) (λ x. refl)
   may_by (act.Resolve addresses e n) = of_dialer n e (act.Resolve addresses e n) (λ x. refl)
   may_by (act.Connect e from n to) =

@@ -1,37 +1,43 @@
 -- Entries in which no connection of a node admits anything, and in which the node sends nothing and drops no reader.
-use Rattle.std.proofs.Common.{◌≡◌, ℕ, Bool, true, false, cond, List, [], ◌∷◌, ◌++◌, length, Option, Some, None, refl, ap, ◌∙◌, arith}
-use Rattle.std.specs.Prelude.{◌==◌, ◌&&◌, not}
+use Rattle.std.proofs.Common.{◌≡◌, ℕ, Bool, true, false, cond, List, [], ◌∷◌, ◌++◌, Some, refl, ap, sym, ◌∙◌, arith}
+use Rattle.std.specs.Prelude.{◌==◌, ◌&&◌, not, slice_get}
 use Rattle.std.proofs.lemmas.Bool.Decides.{nat_tests}
 use Rattle.p2p_log.specs.declared.config.Config.{Config}
 use Rattle.p2p_log.specs.declared.queue.Queue.TheVariants as queue
 use Rattle.p2p_log.specs.declared.entry.Entry.{Entry}
-use Rattle.p2p_log.specs.declared.entry.Reply.{Reply}
+use Rattle.p2p_log.specs.declared.event.Recipients.{Recipients}
 use Rattle.p2p_log.specs.declared.event.Act.{Act}
 use Rattle.p2p_log.specs.declared.event.Act.TheVariants as act
 use Rattle.p2p_log.specs.Lines.{line}
-use Rattle.p2p_log_rules.specs.declared.row.Checked.{Checked}
-use Rattle.p2p_log_rules.specs.Admitting.{asked_for, asked_moments, rate_at, sent_moments}
-use Rattle.p2p_log_rules.specs.Checking.{checking_node, keys_checked, acted_checks, checked_at}
-use Rattle.p2p_log_rules.specs.Closing.{closed_by}
-use Rattle.p2p_log_rules.specs.Connections.{is_done, steps_receiver, is_end}
-use Rattle.p2p_log_rules.specs.Facts.{taken, peers_told, with_begun, with_named}
-use Rattle.p2p_log_rules.specs.Metering.{Metered, pings, messages, limit_at, admits_one, admitted_by}
+use Rattle.p2p_log_rules.specs.Checking.{checked_at, Check, check_of}
+use Rattle.p2p_log_rules.specs.Connections.{is_done, is_end}
+use Rattle.p2p_log_rules.specs.Facts.{taken}
+use Rattle.p2p_log_rules.specs.Metering.{Metered, pings, messages, limit_at, admitted_by}
+use Rattle.p2p_log_rules.proofs.Connections.{steps_receiver}
+use Rattle.p2p_log_rules.proofs.Metering.{admits_one, admitted_is}
+use Rattle.p2p_log_rules.specs.Valid.{checked_by}
+use Rattle.p2p_log_rules.proofs.Checks.{check_kinds, IsMade, is_made, checked_at-apart, checked_at-spent_elsewhere, checked_at-elsewhere}
+use Rattle.p2p_log_rules.proofs.Closing.{reader_kinds, is_closed-apart, is_closed-kept}
+use Rattle.p2p_log_rules.proofs.Families.{kinds_of, are_apart}
+use Rattle.p2p_log_rules.proofs.Sends.{send_kinds, Asks, sent_moments-apart, sent_moments-elsewhere}
 use Rattle.p2p_net_channels.specs.Stands.{AdmitsNone, SendsNone, ClosesNone}
 use Rattle.p2p_net_connections.specs.Stands.{ReceivesNone}
-use Rattle.p2p_net.specs.Places.{channels, connections, at, names}
+use Rattle.p2p_net.specs.Places.{channels, connections, at, or_first, node_checking, names}
 
 -- an entry of another act than a step of a receiving half of the node
 pub admits-unreceived : (limit n conn : ℕ) (what : Metered) (log : List Entry) (e : Entry) (a : Act) → e.event.act ≡ a → steps_receiver n conn a ≡ false
     → admitted_by limit n conn what log e ≡ []
 admits-unreceived limit n conn what log e a is none =
-    ap (λ b. cond (steps_receiver n conn b && not (is_end e.reply) && admits_one limit what (taken log e) e.puts) (e.event.at ∷ []) []) is
-    ∙ ap (λ b. cond (b && not (is_end e.reply) && admits_one limit what (taken log e) e.puts) (e.event.at ∷ []) []) none
+    admitted_is limit n conn what log e
+    ∙ (ap (λ b. cond (steps_receiver n conn b && not (is_end e.reply) && admits_one limit what (taken log e) e.puts) (e.event.at ∷ []) []) is
+    ∙ ap (λ b. cond (b && not (is_end e.reply) && admits_one limit what (taken log e) e.puts) (e.event.at ∷ []) []) none)
 
 -- one that takes nothing
 pub admits-untaken : (limit n conn : ℕ) (what : Metered) (log : List Entry) (e : Entry) → taken log e ≡ [] → admitted_by limit n conn what log e ≡ []
 admits-untaken limit n conn what log e none =
-    ap (λ items. cond (steps_receiver n conn e.event.act && not (is_end e.reply) && admits_one limit what items e.puts) (e.event.at ∷ []) []) none
-    ∙ never (steps_receiver n conn e.event.act && not (is_end e.reply))
+    admitted_is limit n conn what log e
+    ∙ (ap (λ items. cond (steps_receiver n conn e.event.act && not (is_end e.reply) && admits_one limit what items e.puts) (e.event.at ∷ []) []) none
+    ∙ never (steps_receiver n conn e.event.act && not (is_end e.reply)))
   where
     never : (b : Bool) → cond (b && false) (e.event.at ∷ []) [] ≡ []
     never true = refl
@@ -40,8 +46,9 @@ admits-untaken limit n conn what log e none =
 -- one that ends its connection
 pub admits-ended : (limit n conn : ℕ) (what : Metered) (log : List Entry) (e : Entry) → is_end e.reply ≡ true → admitted_by limit n conn what log e ≡ []
 admits-ended limit n conn what log e ends =
-    ap (λ b. cond (steps_receiver n conn e.event.act && not b && admits_one limit what (taken log e) e.puts) (e.event.at ∷ []) []) ends
-    ∙ never (steps_receiver n conn e.event.act) (admits_one limit what (taken log e) e.puts)
+    admitted_is limit n conn what log e
+    ∙ (ap (λ b. cond (steps_receiver n conn e.event.act && not b && admits_one limit what (taken log e) e.puts) (e.event.at ∷ []) []) ends
+    ∙ never (steps_receiver n conn e.event.act) (admits_one limit what (taken log e) e.puts))
   where
     never : (b c : Bool) → cond (b && false && c) (e.event.at ∷ []) [] ≡ []
     never true c = refl
@@ -91,47 +98,46 @@ pings_ended configs log e n ends conn = admits-ended (limit_at configs n) n conn
 
 -- ---- sends
 
--- whether an act offers a message of the node, or spends a check of it, after these entries
-abbrev pub sends_at : List Entry → ℕ → Act → Bool
-sends_at log n (act.Send bytes c m priority to) = m == n
-sends_at log n (act.Check c m to) = m == n
-sends_at log n (act.SendChecked bytes check priority) = checking_node log check == n
-sends_at log n _ = false
+-- whether an act asks the quota of no channel, makes no check and sends by none
+abbrev pub SendsNothing : Act → Type 0
+SendsNothing a = (are_apart (kinds_of a) send_kinds ≡ true) × (are_apart (kinds_of a) check_kinds ≡ true)
 
--- an act of another node asks no quota of this one
-unasked : (log : List Entry) (n c : ℕ) (a : Act) → sends_at log n a ≡ false → asked_for n c a ≡ None
-unasked log n c (act.Send bytes d m priority to) h = ap (λ b. cond (b && (d == c)) (Some to) None) h
-unasked log n c (act.Check d m to) h = ap (λ b. cond (b && (d == c)) (Some to) None) h
-unasked log n c _ h = refl
-
-unchecked : (log : List Entry) (n : ℕ) (a : Act) (r : Reply) (checks : ℕ → Option Checked) (name : ℕ) → sends_at log n a ≡ false → acted_checks n log a r checks name ≡ checks name
-unchecked log n (act.Check d m to) r checks name h = ap (λ b. cond b (with_begun (keys_checked d r) (length log) checks name) (checks name)) h
-unchecked log n (act.SendChecked bytes check priority) r checks name h = ap (λ b. cond b (with_named check None checks name) (checks name)) h
-unchecked log n _ r checks name h = refl
-
-pub sends_apart : (log : List Entry) (e : Entry) (n : ℕ) (a : Act) → e.event.act ≡ a → sends_at log n a ≡ false → SendsNone log e n
+pub sends_apart : (log : List Entry) (e : Entry) (n : ℕ) (a : Act) → e.event.act ≡ a → SendsNothing a → SendsNone log e n
 sends_apart log e n a is none = record {
-  moments = λ c k. ap (λ o. asked_moments (rate_at log n c) e.event.at (peers_told log n c) o (sent_moments log n c) k) (ap (asked_for n c) is ∙ unasked log n c a none);
-  checks = λ name. ap (λ b. acted_checks n log b e.reply (checked_at log n) name) is ∙ unchecked log n a e.reply (checked_at log n) name none;
+  moments = λ c k. sent_moments-apart log e n c k (ap (λ b. are_apart (kinds_of b) send_kinds) is ∙ none.0);
+  checks = λ name. checked_at-apart log e n name (ap (λ b. are_apart (kinds_of b) check_kinds) is ∙ none.1);
 }
 
-sends_elsewhere : (log : List Entry) (n : ℕ) (a : Act) → names log a (at channels n) ≡ false → sends_at log n a ≡ false
-sends_elsewhere log n (act.Send bytes c m priority to) h = grind (arith, nat_tests)
-sends_elsewhere log n (act.Check c m to) h = grind (arith, nat_tests)
-sends_elsewhere log n (act.SendChecked bytes check priority) h = grind (arith, nat_tests)
-sends_elsewhere log n _ h = refl
+-- an offer of another node
+offers_elsewhere : (log : List Entry) (e : Entry) (n c m : ℕ) (to : Recipients) → Asks e m c to → (m == n) ≡ false → ((name : ℕ) → checked_at (log ++ e ∷ []) n name ≡ checked_at log n name) → SendsNone log e n
+offers_elsewhere log e n c m to asks away checks = record { moments = λ d k. sent_moments-elsewhere log e m c to asks n d k away; checks = checks }
+
+-- a check is of the node at which its entry checks
+pub checking_is : (log : List Entry) (check : ℕ) (c : Check) → check_of log check ≡ Some c → node_checking (slice_get log check) ≡ c.node
+checking_is log check c has = let made : IsMade log check c = is_made log check c has in ap node_checking made.here ∙ ap (λ a. or_first (checked_by a)) made.asks
 
 pub sends_unnamed : (log : List Entry) (e : Entry) (n : ℕ) (a : Act) → e.event.act ≡ a → names log a (at channels n) ≡ false → SendsNone log e n
-sends_unnamed log e n a is h = sends_apart log e n a is (sends_elsewhere log n a h)
+sends_unnamed log e n (act.Send bytes c m priority to) is h =
+    offers_elsewhere log e n c m to (Asks.sends bytes priority is) (let other : (m == n) ≡ false = grind (arith, nat_tests) in other)
+    (λ name. checked_at-apart log e n name (ap (λ b. are_apart (kinds_of b) check_kinds) is))
+sends_unnamed log e n (act.Check c m to) is h =
+    let other : (m == n) ≡ false = grind (arith, nat_tests) in
+    offers_elsewhere log e n c m to (Asks.checks is) other (λ name. checked_at-elsewhere log e n name c m to is other)
+sends_unnamed log e n (act.SendChecked bytes check priority) is h =
+    let other : (node_checking (slice_get log check) == n) ≡ false = grind (arith, nat_tests) in
+    record {
+      moments = λ c k. sent_moments-apart log e n c k (ap (λ b. are_apart (kinds_of b) send_kinds) is);
+      checks = λ name. checked_at-spent_elsewhere log e n name bytes check priority is (λ c has. ap (λ m. m == n) (sym (checking_is log check c has)) ∙ other);
+    }
+sends_unnamed log e n a is h = sends_apart log e n a is (refl, refl)
 
 -- ---- readers
 
-pub closes_apart : (e : Entry) (n : ℕ) (a : Act) → e.event.act ≡ a → ((c : ℕ) (r : Reply) → closed_by n c a r ≡ false) → ClosesNone e n
-closes_apart e n a is none c = ap (λ b. closed_by n c b e.reply) is ∙ none c e.reply
+pub closes_apart : (log : List Entry) (e : Entry) (n : ℕ) (a : Act) → e.event.act ≡ a → are_apart (kinds_of a) reader_kinds ≡ true → ClosesNone log e n
+closes_apart log e n a is apart c = is_closed-apart log e n c (ap (λ b. are_apart (kinds_of b) reader_kinds) is ∙ apart)
 
-closes_elsewhere : (log : List Entry) (n c : ℕ) (a : Act) (r : Reply) → names log a (at channels n) ≡ false → closed_by n c a r ≡ false
-closes_elsewhere log n c (act.Close d m) r h = let other : (m == n) ≡ false = grind (arith, nat_tests) in ap (λ b. (b && (d == c)) && is_done r) other
-closes_elsewhere log n c _ r h = refl
-
-pub closes_unnamed : (log : List Entry) (e : Entry) (n : ℕ) (a : Act) → e.event.act ≡ a → names log a (at channels n) ≡ false → ClosesNone e n
-closes_unnamed log e n a is h = closes_apart e n a is (λ c r. closes_elsewhere log n c a r h)
+pub closes_unnamed : (log : List Entry) (e : Entry) (n : ℕ) (a : Act) → e.event.act ≡ a → names log a (at channels n) ≡ false → ClosesNone log e n
+closes_unnamed log e n (act.Close d m) is h c =
+    let other : (m == n) ≡ false = grind (arith, nat_tests) in
+    is_closed-kept log e n c m d is (ap (λ b. (b && (d == c)) && is_done e.reply) other)
+closes_unnamed log e n a is h c = closes_apart log e n a is refl c

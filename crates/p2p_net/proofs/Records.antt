@@ -9,7 +9,7 @@ use Rattle.p2p_log.specs.declared.entry.Entry.{Entry}
 use Rattle.p2p_log_rules.specs.declared.row.Row.{Row}
 use Rattle.p2p_log_rules.specs.Facts.{events_of, latest_moment}
 use Rattle.p2p_log_rules.specs.Effect.{row, entry_of, effect}
-use Rattle.p2p_log_rules.specs.Valid.{last_moment, may_act, is_valid_event}
+use Rattle.p2p_log_rules.specs.Valid.{may_act, is_valid_event}
 use Rattle.p2p_log_rules.specs.Lawful.{IsLawful}
 use Rattle.p2p_log_rules.proofs.Facts.{events_of-append}
 use Rattle.p2p_net_queues.proofs.Meters.{latest_moment-entry}
@@ -29,11 +29,6 @@ use Rattle.p2p_net.proofs.Acting.{simulates}
 use Rattle.p2p_net.proofs.Performing.{Simulates}
 use Rattle.p2p_net.proofs.Readying.{may_act-nodes}
 
-last_moment-append : (events : List Event) (v : Event) → last_moment (events ++ v ∷ []) ≡ v.at
-last_moment-append [] v = refl
-last_moment-append (w ∷ []) v = refl
-last_moment-append (w ∷ x ∷ ws) v = last_moment-append (x ∷ ws) v
-
 event-effect : (configs : List Config) (log : List Entry) (v : Event) → (effect configs log v).event ≡ v
 unfolding effect
 event-effect configs log v = refl
@@ -41,24 +36,24 @@ event-effect configs log v = refl
 -- an event that may be asked for has an act that may
 pub valid_act : (configs : List Config) (events : List Event) (v : Event) → is_valid_event configs events v ≡ true → may_act configs events v.act ≡ true
 unfolding is_valid_event
-valid_act configs events v h = (and_parts (nat_le (last_moment events) v.at) (may_act configs events v.act) h).1
+valid_act configs events v h = (and_parts (nat_le (latest_moment events) v.at) (may_act configs events v.act) h).1
 
 -- and it is not before the log
 pub moment_is_late : (configs : List Config) (log : List Entry) (nodes : List Node) (links : Links) (last : ℕ) (v : Event) → KeptStands configs log nodes links last → is_valid_event configs (events_of log) v ≡ true
     → latest_moment (events_of log) ≤ v.at
 unfolding is_valid_event
 moment_is_late configs log nodes links last v k valid =
-    by (latest_moment (events_of log)) (last_moment (events_of log)) last v.at k.timely k.last_is (and_parts (nat_le (last_moment (events_of log)) v.at) (may_act configs (events_of log) v.act) valid).0
+    by (latest_moment (events_of log)) v.at (and_parts (nat_le (latest_moment (events_of log)) v.at) (may_act configs (events_of log) v.act) valid).0
   where
-    by : (latest moment last at : ℕ) → latest ≤ last → last ≡ moment → nat_le moment at ≡ true → latest ≤ at
-    by latest moment last at timely is after = grind (arith, nat_tests)
+    by : (latest at : ℕ) → nat_le latest at ≡ true → latest ≤ at
+    by latest at after = grind (arith, nat_tests)
 
 -- what the code tests of an event
 pub tested : (configs : List Config) (log : List Entry) (nodes : List Node) (links : Links) (last : ℕ) (v : Event) → KeptStands configs log nodes links last → ready.may_apply nodes log last v ≡ is_valid_event configs (events_of log) v
 unfolding is_valid_event
 tested configs log nodes links last v k =
     ap (λ m. nat_le m v.at && ready.may_act nodes log v.act) k.last_is
-    ∙ ap (λ b. nat_le (last_moment (events_of log)) v.at && b) (may_act-nodes configs log nodes links v.act k.world)
+    ∙ ap (λ b. nat_le (latest_moment (events_of log)) v.at && b) (may_act-nodes configs log nodes links v.act k.world)
 
 -- a world whose log has one more entry, and that was the last moment
 pub kept_more : (configs : List Config) (log later : List Entry) (nodes : List Node) (links : Links) (v : Event) → IsLawful configs (events_of log) log → latest_moment (events_of log) ≤ v.at → later ≡ log ++ effect configs log v ∷ [] → WorldStands configs later nodes links
@@ -69,11 +64,6 @@ kept_more configs log later nodes links v lawful late is s = record {
       (subst (λ l. IsLawful configs l (log ++ effect configs log v ∷ [])) (sym (events_of-append log (effect configs log v) ∙ ap (λ e. events_of log ++ e ∷ []) (event-effect configs log v)))
       (IsLawful-append configs (events_of log) log v lawful));
   last_is =
-      sym
-      (ap (λ l. last_moment (events_of l)) is
-      ∙ (ap last_moment (events_of-append log (effect configs log v))
-      ∙ (ap (λ e. last_moment (events_of log ++ e ∷ [])) (event-effect configs log v) ∙ last_moment-append (events_of log) v)));
-  timely =
       let grown : latest_moment (events_of later) ≡ max (latest_moment (events_of log)) v.at =
       ap (λ l. latest_moment (events_of l)) is
       ∙ (latest_moment-entry log (effect configs log v) ∙ ap (λ (w : Event). max (latest_moment (events_of log)) w.at) (event-effect configs log v))
@@ -107,6 +97,5 @@ pub kept_new : (configs : List Config) (log : List Entry) (nodes : List Node) (l
 kept_new configs log nodes links none s = record {
   world = s;
   lawful = subst (λ l. IsLawful configs (events_of l) l) (sym none) (IsLawful-nil configs);
-  last_is = sym (ap (λ l. last_moment (events_of l)) none);
-  timely = let nothing : latest_moment (events_of log) ≡ 0 = ap (λ l. latest_moment (events_of l)) none in omega (arith, nothing);
+  last_is = sym (ap (λ l. latest_moment (events_of l)) none);
 }

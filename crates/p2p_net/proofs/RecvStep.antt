@@ -16,7 +16,7 @@ use Rattle.p2p_log.specs.declared.event.Act.TheVariants as act
 use Rattle.p2p_log.specs.Lines.{line, live}
 use Rattle.p2p_log_rules.specs.declared.row.Half.{Half}
 use Rattle.p2p_log_rules.specs.declared.row.Row.{Row}
-use Rattle.p2p_log_rules.specs.Connections.{live_half, is_begun, is_running}
+use Rattle.p2p_log_rules.specs.Connections.{live_half, is_begun, has_run}
 use Rattle.p2p_log_rules.specs.Dropping.{is_dropped}
 use Rattle.p2p_log_rules.specs.Ending.{end_row}
 use Rattle.p2p_log_rules.specs.Facts.{is_up, events_of, latest_moment}
@@ -52,7 +52,7 @@ limit_here configs n x s = sym (ap (λ (o : Option Config). elim o [ None ↦ 0 
 -- ---- of a node that has started
 
 module _ (configs : List Config) (log : List Entry) (at seed conn n : ℕ) (half : Half) (x y : Node) (l links : Links) (r : Row) (s : NodeStands configs log n x) (t : LinksStand configs log l)
-    (late : latest_moment (events_of log) ≤ at) (heard : is_running log n conn ≡ true → Each (λ z. names_ready conn z.item ≡ false) (line log (queue.Router n))) (fitting : Each StandsFit (live log))
+    (late : latest_moment (events_of log) ≤ at) (heard : has_run log n conn ≡ true → Each (λ z. names_ready conn z.item ≡ false) (line log (queue.Router n))) (fitting : Each StandsFit (live log))
     (up : is_up log n ≡ true) (has : live_half log n conn ≡ Some half) where
   abbrev Done : Type 0
   Done = Performs configs log (asked at seed (act.RecvStep conn n)) n y links r
@@ -72,7 +72,7 @@ module _ (configs : List Config) (log : List Entry) (at seed conn n : ℕ) (half
 
   -- ---- one that runs
 
-  module _ (begun : is_begun log n conn ≡ true) (running : is_running log n conn ≡ true) where
+  module _ (begun : is_begun log n conn ≡ true) (running : has_run log n conn ≡ true) where
     -- no frame is in flight towards it, by whether the other end was dropped
     none_row : line log (queue.Held n conn) ≡ [] → line log p ≡ [] → (b : Bool) → is_dropped log half.link u ≡ b
         → row configs log at seed (act.RecvStep conn n) ≡ cond b (end_row log n conn half ended.ReceiveFailed cause.ConnectionEnded []) (only reply.Idle)
@@ -108,7 +108,7 @@ module _ (configs : List Config) (log : List Entry) (at seed conn n : ℕ) (half
 
   -- ---- by how far it is
 
-  resting : is_running log n conn ≡ false → row configs log at seed (act.RecvStep conn n) ≡ only reply.Idle
+  resting : has_run log n conn ≡ false → row configs log at seed (act.RecvStep conn n) ≡ only reply.Idle
   unfolding row
   resting rests = stepped_as configs log conn n at (Some half) false up has rests
 
@@ -122,7 +122,7 @@ module _ (configs : List Config) (log : List Entry) (at seed conn n : ℕ) (half
 -- ---- of any node
 
 module _ (configs : List Config) (log : List Entry) (at seed conn n : ℕ) (x y : Node) (l links : Links) (r : Row) (s : NodeStands configs log n x) (t : LinksStand configs log l)
-    (late : latest_moment (events_of log) ≤ at) (heard : is_running log n conn ≡ true → Each (λ z. names_ready conn z.item ≡ false) (line log (queue.Router n))) (fitting : Each StandsFit (live log)) where
+    (late : latest_moment (events_of log) ≤ at) (heard : has_run log n conn ≡ true → Each (λ z. names_ready conn z.item ≡ false) (line log (queue.Router n))) (fitting : Each StandsFit (live log)) where
   abbrev Steps : Type 0
   Steps = Performs configs log (asked at seed (act.RecvStep conn n)) n y links r
 
@@ -135,7 +135,7 @@ module _ (configs : List Config) (log : List Entry) (at seed conn n : ℕ) (x y 
 
   nobody : is_up log n ≡ true → live_half log n conn ≡ None → row configs log at seed (act.RecvStep conn n) ≡ only reply.Gone
   unfolding row
-  nobody up none = stepped_as configs log conn n at None (is_running log n conn) up none refl
+  nobody up none = stepped_as configs log conn n at None (has_run log n conn) up none refl
 
   by_half : (o : Option Half) → is_up log n ≡ true → live_half log n conn ≡ o → StepsOn o (length log) n conn at x y l links r → Steps
   by_half None up none d = gone (nobody up none) d.0.0 d.0.1 d.1

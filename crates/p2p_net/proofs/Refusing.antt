@@ -23,7 +23,7 @@ use Rattle.p2p_log.proofs.Lines.{filter_stays-nil}
 use Rattle.p2p_log.proofs.Queues.{same_queue-refl}
 use Rattle.p2p_log_rules.specs.declared.row.Half.{Half}
 use Rattle.p2p_log_rules.specs.declared.row.Row.{Row}
-use Rattle.p2p_log_rules.specs.Connections.{live_half, is_begun, is_running}
+use Rattle.p2p_log_rules.specs.Connections.{live_half, is_begun, has_run}
 use Rattle.p2p_log_rules.specs.Effect.{row, other_side}
 use Rattle.p2p_log_rules.specs.Ending.{left_by, end_row}
 use Rattle.p2p_log_rules.proofs.Moves.{stands_first}
@@ -145,7 +145,7 @@ module _ (configs : List Config) (log : List Entry) (n conn : ℕ) (half : Half)
 -- ---- the end
 
 module _ (configs : List Config) (log : List Entry) (at seed conn n : ℕ) (half : Half) (x y : Node) (l links : Links) (r : Row) (s : NodeStands configs log n x) (t : LinksStand configs log l)
-    (has : live_half log n conn ≡ Some half) (begun : is_begun log n conn ≡ true) (running : is_running log n conn ≡ true)
+    (has : live_half log n conn ≡ Some half) (begun : is_begun log n conn ≡ true) (running : has_run log n conn ≡ true)
     (heard : Each (λ z. names_ready conn z.item ≡ false) (line log (queue.Router n))) where
   -- none will come
   pub unread_performs : row configs log at seed (act.RecvStep conn n) ≡ end_row log n conn half ended.ReceiveFailed cause.ConnectionEnded []

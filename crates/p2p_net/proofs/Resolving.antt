@@ -1,7 +1,5 @@
 -- An attempt is told the addresses of its peer.
-use Rattle.std.proofs.Common.{◌≡◌, ℕ, Bool, true, false, cond, List, [], ◌∷◌, ◌++◌, length, refl, ap, sym, subst, ◌∙◌, eq-eqb, Option, Some, None}
-use Rattle.std.specs.Prelude.{◌==◌}
-use Rattle.std.specs.Option.{option_map}
+use Rattle.std.proofs.Common.{◌≡◌, ℕ, Bool, true, false, List, [], ◌∷◌, ◌++◌, length, refl, ap, sym, subst, ◌∙◌, Option, Some, None}
 use Rattle.p2p_base.specs.declared.key.Key.{Key}
 use Rattle.p2p_address.specs.declared.ip.SocketAddr.{SocketAddr}
 use Rattle.p2p_address.specs.declared.peer.Ingress.{Ingress}
@@ -9,19 +7,18 @@ use Rattle.p2p_address.specs.declared.peer.Ingress.TheVariants as ingress
 use Rattle.p2p_tracker_directory.specs.declared.metadata.Metadata.{Metadata}
 use Rattle.p2p_tracker_directory.specs.declared.metadata.Metadata.TheVariants as metadata
 use Rattle.p2p_log.specs.declared.config.Config.{Config}
-use Rattle.p2p_log.specs.declared.queue.Queue.{Queue}
 use Rattle.p2p_log.specs.declared.queue.Queue.TheVariants as queue
-use Rattle.p2p_log.specs.declared.item.Item.{Item}
 use Rattle.p2p_log.specs.declared.item.Item.TheVariants as item
 use Rattle.p2p_log.specs.declared.entry.Entry.{Entry}
-use Rattle.p2p_log.specs.declared.entry.Reply.{Reply}
 use Rattle.p2p_log.specs.declared.entry.Reply.TheVariants as reply
 use Rattle.p2p_log.specs.declared.event.Act.{Act}
 use Rattle.p2p_log.specs.declared.event.Act.TheVariants as act
 use Rattle.p2p_log.specs.Lines.{line}
 use Rattle.p2p_log_rules.specs.declared.row.Row.{Row}
-use Rattle.p2p_log_rules.specs.Attempting.{Attempt, dial_rules_at, attempts_of, told_row, resolve_by}
-use Rattle.p2p_log_rules.proofs.Attempts.{told_addresses, acted_attempts}
+use Rattle.p2p_log_rules.specs.Attempting.{Attempt, dial_rules_at, attempts_of, attempt_told_row, resolve_by}
+use Rattle.p2p_log_rules.specs.Tellings as telling
+use Rattle.p2p_log_rules.proofs.Attempts.{attempt_told}
+use Rattle.p2p_log_rules.proofs.AttemptTellings.{addresses_told}
 use Rattle.p2p_log_rules.specs.Effect.{only, row}
 use Rattle.p2p_net_queues.specs.Tables as table
 use Rattle.p2p_net_queues.specs.Tables.{AreBut}
@@ -34,9 +31,8 @@ use Rattle.p2p_net.specs.Acts.{TellsAttempt}
 use Rattle.p2p_net.specs.Places as place
 use Rattle.p2p_net.specs.Stands.{NodeStands}
 use Rattle.p2p_net.specs.declared.node.Node.{Node}
-use Rattle.p2p_net.proofs.Attempting.{other_attempt, told_is, does_itself, untold_stands, told_stands, unnamed_by, tells_performs}
+use Rattle.p2p_net.proofs.Attempting.{other_named, other_attempt, told_is, does_itself, untold_stands, told_stands, unnamed_by, tells_performs}
 use Rattle.p2p_net.proofs.Performing.{asked, Performs}
-use Rattle.p2p_log_rules.specs.Facts.{with_named}
 
 module _ (configs : List Config) (log : List Entry) (moment seed : ℕ) (addresses : List SocketAddr) (name n : ℕ) (x y : Node) (l ls : Links) (r : Row) (s : NodeStands configs log n x) (t : LinksStand configs log l)
     (tells : TellsAttempt x y) (kept : ls ≡ l) where
@@ -49,10 +45,6 @@ module _ (configs : List Config) (log : List Entry) (moment seed : ℕ) (address
   abbrev Done : Type 0
   Done = Performs configs log (asked moment seed a) n y ls r
 
-  acted : (rep : Reply) (items : List Item) (puts : List (Queue × Item)) (j : ℕ)
-      → acted_attempts (dial_rules_at configs n) n (length log) moment seed rep items puts a attempts j ≡ cond (j == name) (option_map (told_addresses rep) (attempts name)) (attempts j)
-  acted rep items puts j = ap (λ b. cond b (with_named name (option_map (told_addresses rep) (attempts name)) attempts j) (attempts j)) (eq-eqb n n refl)
-
   row_by : (b : Option Attempt) → attempts name ≡ b → row configs log moment seed a ≡ elim b [ None ↦ only reply.Gone | Some c ↦ resolve_by c.ingress c.is_resolved name n addresses ]
   unfolding row
   row_by b is = ap (λ (o : Option Attempt). elim o [ None ↦ only reply.Gone | Some c ↦ resolve_by c.ingress c.is_resolved name n addresses ]) is
@@ -60,24 +52,21 @@ module _ (configs : List Config) (log : List Entry) (moment seed : ℕ) (address
   gone : (now : Option RunningAttempt) → row configs log moment seed a ≡ only reply.Gone → r ≡ only reply.Gone → AreBut name now x.dialing.attempts y.dialing.attempts → now ≡ table.at x.dialing.attempts name → Done
   gone now is done but now_is =
       tells_performs configs log moment seed n a x y l ls r s t (unnamed_by log n) refl tells kept (is ∙ sym done)
-      (untold_stands configs log moment seed n name a (only reply.Gone) is x.dialing y.dialing (s.each place.dialer) refl refl (λ j other. (refl, other_attempt n name j other)) (λ rep puts. told_addresses rep) (λ rep items puts. tt) acted tells.0
-      now reply.Gone (does_itself (queue.Attempt n name) (length log) (only reply.Gone)) but (same (attempts name)) now_is)
-    where
-      same : (o : Option Attempt) → option_map (told_addresses reply.Gone) o ≡ o
-      same None = refl
-      same (Some b) = refl
+      (untold_stands configs log moment seed n name a (only reply.Gone) is x.dialing y.dialing (s.each place.dialer) refl refl (λ j other. (refl, other_attempt n name j other)) (λ j other. other_named n name j other) tells.0
+      now reply.Gone (does_itself (queue.Attempt n name) (length log) (only reply.Gone)) but refl now_is)
 
   by_ingress : (b : Attempt) (m : Metadata Key) (at : Ingress) (done : Bool) → m ≡ metadata.Dialer b.key → attempts name ≡ Some b → table.at x.dialing.attempts name ≡ Some (attempt_of (gates_at configs n) name m b (line log (queue.Attempt n name)))
       → b.ingress ≡ at → b.is_resolved ≡ done → row configs log moment seed a ≡ resolve_by at done name n addresses → r ≡ resolve_by at done name n addresses
       → AreBut name (Some (resolved at done (length log) addresses (attempt_of (gates_at configs n) name m b (line log (queue.Attempt n name))))) x.dialing.attempts y.dialing.attempts → Done
   by_ingress b m (ingress.Dns host port) false reserved is there at_is done_is row_is is_row but =
       tells_performs configs log moment seed n a x y l ls r s t (unnamed_by log n) refl tells kept (row_is ∙ sym is_row)
-      (told_stands configs log moment seed n name a (told_row name n (item.Resolved addresses)) row_is x.dialing y.dialing (s.each place.dialer) refl refl (λ j other. (refl, other_attempt n name j other))
-      (λ rep puts. told_addresses rep) (λ rep items puts. tt) acted tells.0 (Some (resolved (ingress.Dns host port) false (length log) addresses (attempt_of (gates_at configs n) name m b (line log (queue.Attempt n name))))) (item.Resolved addresses)
-      (does_itself (queue.Attempt n name) (length log) (told_row name n (item.Resolved addresses))) but
+      (told_stands configs log moment seed n name a (attempt_told_row name n (item.Resolved addresses)) row_is x.dialing y.dialing (s.each place.dialer) refl refl (λ j other. (refl, other_attempt n name j other))
+      (λ j other. other_named n name j other) tells.0 (Some (resolved (ingress.Dns host port) false (length log) addresses (attempt_of (gates_at configs n) name m b (line log (queue.Attempt n name))))) (item.Resolved addresses)
+      (does_itself (queue.Attempt n name) (length log) (attempt_told_row name n (item.Resolved addresses))) but
       (subst (λ (o : Option Attempt). AttemptStands (gates_at configs n) name
-      (Some (resolved (ingress.Dns host port) false (length log) addresses (attempt_of (gates_at configs n) name m b (line log (queue.Attempt n name))))) (option_map (told_addresses reply.Ok) o)
-      (line log (queue.Attempt n name) ++ record { entry = length log; place = 0; queue = queue.Attempt n name; item = item.Resolved addresses } ∷ [])) (sym is)
+      (Some (resolved (ingress.Dns host port) false (length log) addresses (attempt_of (gates_at configs n) name m b (line log (queue.Attempt n name))))) o
+      (line log (queue.Attempt n name) ++ record { entry = length log; place = 0; queue = queue.Attempt n name; item = item.Resolved addresses } ∷ []))
+      (sym (ap (attempt_told (dial_rules_at configs n) n name (telling.addresses_told n name ∷ [])) is ∙ addresses_told (dial_rules_at configs n) n name b))
       (m, reserved, ap (λ (w : RunningAttempt). record w { is_resolved = true }) (told_is (gates_at configs n) name (length log) n m b (line log (queue.Attempt n name)) (item.Resolved addresses)))))
   by_ingress b m (ingress.Dns host port) true reserved is there at_is done_is row_is is_row but =
       gone (Some (attempt_of (gates_at configs n) name m b (line log (queue.Attempt n name)))) row_is is_row but (sym there)

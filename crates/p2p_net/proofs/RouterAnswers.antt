@@ -1,10 +1,11 @@
 -- A step of the sending half of a connection that has begun: it takes its router's answer.
 use Rattle.std.proofs.Common.{◌≡◌, ℕ, Bool, true, false, cond, List, [], ◌∷◌, ◌++◌, length, refl, ap, sym, subst, ◌∙◌, arith, append-nil, eqb-true, Some, None}
-use Rattle.std.specs.Prelude.{map, filter, flat_map, slice_get, ◌==◌, ◌&&◌, ◌||◌}
+use Rattle.std.specs.Prelude.{filter, flat_map, slice_get, ◌==◌, ◌&&◌, ◌||◌}
 use Rattle.std.specs.List.{list_any}
 use Rattle.std.specs.BTreeMap.{insert_entry}
 use Rattle.std.specs.Ordering.{nat_cmp}
 use Rattle.std.proofs.lemmas.Bool.Decides.{nat_tests}
+use Rattle.p2p_log_rules.proofs.Bools.{and_false, and_true, or_false}
 use Rattle.p2p_log.specs.declared.config.Config.{Config}
 use Rattle.p2p_log.specs.declared.queue.Queue.{Queue}
 use Rattle.p2p_log.specs.declared.queue.Queue.TheVariants as queue
@@ -19,13 +20,14 @@ use Rattle.p2p_log.specs.Lines.{line, name_of, placed, stands_in, ended_item}
 use Rattle.p2p_log_rules.specs.declared.row.Half.{Half}
 use Rattle.p2p_log_rules.specs.declared.row.Row.{Row}
 use Rattle.p2p_log_rules.specs.Dropping.{half_end}
-use Rattle.p2p_log_rules.specs.Connections.{half_at, live_half, steps_sender, is_done, begins, is_begun, is_answer, answers_by, is_running, is_end}
+use Rattle.p2p_log_rules.specs.Connections.{half_at, live_half, is_done, begins, runs, is_begun, is_answer, has_run, is_running, is_end}
 use Rattle.p2p_log_rules.specs.Effect.{only, row, effect, takes_oldest, half_row, sender_row, send_step_row}
 use Rattle.p2p_log_rules.specs.Pings.{ping_frequency_at, is_past, ping_is_due}
-use Rattle.p2p_log_rules.specs.Facts.{is_up, starts, registers_at, steps_router, taken, item_named}
+use Rattle.p2p_log_rules.specs.Facts.{is_up, starts, registers_at, taken, item_named}
 use Rattle.p2p_log_rules.specs.Spawning.{steps_spawner}
 use Rattle.p2p_log_rules.specs.Tracking.{steps_tracker}
-use Rattle.p2p_log_rules.specs.TrackerRows.{answers}
+use Rattle.p2p_log_rules.specs.TrackerRows.{takes_answer}
+use Rattle.p2p_log_rules.proofs.Families.{kinds_of, are_apart}
 use Rattle.p2p_log_rules.proofs.Recorded.{item_named-first}
 use Rattle.p2p_log_rules.proofs.Spawning.{connections_of-unmade}
 use Rattle.p2p_log_rules.proofs.Touches.{away}
@@ -35,6 +37,7 @@ use Rattle.p2p_net_queues.proofs.Going.{line-taken}
 use Rattle.p2p_net_queues.proofs.Holding.{waits_taken, waits_none}
 use Rattle.p2p_net_router.specs.Stands.{IsBeside}
 use Rattle.p2p_net_router.proofs.Aside.{stands_begun}
+use Rattle.p2p_net_router.proofs.Unrouted.{unrouted_apart}
 use Rattle.p2p_net_connections.specs.Connections.{stages_with}
 use Rattle.p2p_net_connections.specs.Stands.{ConnectionsStand, SpawnsNone, ReceivesNone}
 use Rattle.p2p_net_connections.specs.declared.connections.Connections.{Connections}
@@ -48,8 +51,6 @@ use Rattle.p2p_net_links.specs.declared.links.Links.{Links}
 use Rattle.p2p_net_links.proofs.Changes.{openings_unmoved, links_frame}
 use Rattle.p2p_log_rules.proofs.Dropping.{all_of, drops_of-send}
 use Rattle.p2p_net_links.proofs.Drops.{DropsNone}
-use Rattle.p2p_net_listener.specs.Stands.{is_of_listener}
-use Rattle.p2p_net_listener.proofs.Changes.{handshakes_unmoved}
 use Rattle.p2p_net_tracker.specs.Stands.{is_told, asks_of, TrackerStands, LeavesTracker}
 use Rattle.p2p_net_tracker.proofs.Changes.{tracker_frame}
 use Rattle.p2p_net.specs.Connecting.{Runs}
@@ -60,15 +61,17 @@ use Rattle.p2p_net.proofs.EachPart.{with_parts, each_part, not_among-links}
 use Rattle.p2p_net.proofs.Receivers.{receives_apart}
 use Rattle.p2p_net.proofs.Routers.{HearsTheSame, hears_again, RouterStands-moved}
 use Rattle.p2p_net.proofs.Performing.{asked, Performs, IsStill, part_still, links_still}
-use Rattle.p2p_log_rules.proofs.Connections.{live_connection-kept, ends_none-reply, is_running-append}
+use Rattle.p2p_log_rules.proofs.Connections.{live_connection-kept, begins_act, runs_is, running_of, ends_none-reply, has_run-append}
+use Rattle.p2p_log_rules.proofs.Handshakes.{handshake_kinds, handshakes_of-apart}
+use Rattle.p2p_log_rules.proofs.Routing.{route_kinds}
 
 -- the row of a step, where the node runs, by the half and how far it is
-pub half_steps : (configs : List Config) (log : List Entry) (conn n at : ℕ) (half : Half) (begun running : Bool) → is_up log n ≡ true → live_half log n conn ≡ Some half → is_begun log n conn ≡ begun → is_running log n conn ≡ running
+pub half_steps : (configs : List Config) (log : List Entry) (conn n at : ℕ) (half : Half) (begun running : Bool) → is_up log n ≡ true → live_half log n conn ≡ Some half → is_begun log n conn ≡ begun → has_run log n conn ≡ running
     → send_step_row configs log conn n at ≡ half_row configs log n conn at half begun running
 half_steps configs log conn n at half begun running up has starts runs =
     ap (λ b. cond b (sender_row configs log n conn at (live_half log n conn)) (only reply.Gone)) up
     ∙ (ap (sender_row configs log n conn at) has
-    ∙ (ap (λ b. half_row configs log n conn at half b (is_running log n conn)) starts ∙ ap (half_row configs log n conn at half begun) runs))
+    ∙ (ap (λ b. half_row configs log n conn at half b (is_running log n conn)) starts ∙ ap (half_row configs log n conn at half begun) (running_of log n conn half has ∙ runs)))
 
 -- ---- the router's answer
 
@@ -98,81 +101,64 @@ line_begun log e n conn x rest q h =
 -- a step of a sending half is none of a router's
 pub step_beside : (configs : List Config) (log : List Entry) (e : Entry) (m conn n : ℕ) → e.event.act ≡ act.SendStep conn n → is_end e.reply ≡ false → IsBeside configs log e m
 step_beside configs log e m conn n acts lives = record {
-  no_end = λ c. ends_none-reply e m c lives;
-  no_step = ap (λ b. cond (steps_router m b) (taken log e) []) acts;
+  no_end = λ c. ends_none-reply log e m c lives;
+  no_step = unrouted_apart log e m (ap (λ b. are_apart (kinds_of b) route_kinds) acts);
   no_channel = ap (registers_at configs m) acts;
   no_start = ap (starts m) acts;
 }
 
 -- a step of a connection, of whose connections this is the one that did it
-pub step_begins : (n conn c : ℕ) (e : Entry) → e.event.act ≡ act.SendStep conn n → e.reply ≡ reply.Ok → begins n c e ≡ (c == conn)
-step_begins n conn c e acts ok =
-    ap (λ a. steps_sender n c a && is_done e.reply) acts
+pub step_begins : (log : List Entry) (n conn c : ℕ) (e : Entry) → e.event.act ≡ act.SendStep conn n → e.reply ≡ reply.Ok → begins n c log e ≡ (c == conn)
+step_begins log n conn c e acts ok =
+    begins_act log e n c (act.SendStep conn n) acts
     ∙ (ap (λ r. ((n == n) && (conn == c)) && is_done r) ok ∙ (and_true ((n == n) && (conn == c)) ∙ same_conn n conn c))
-  where
-    and_true : (b : Bool) → (b && true) ≡ b
-    and_true true = refl
-    and_true false = refl
 
-pub other_begins : (n conn c : ℕ) (e : Entry) → e.event.act ≡ act.SendStep conn n → (c == conn) ≡ false → begins n c e ≡ false
-other_begins n conn c e acts other =
-    ap (λ a. steps_sender n c a && is_done e.reply) acts ∙ (ap (λ b. b && is_done e.reply) (same_conn n conn c) ∙ ap (λ b. b && is_done e.reply) other)
+pub other_begins : (log : List Entry) (n conn c : ℕ) (e : Entry) → e.event.act ≡ act.SendStep conn n → (c == conn) ≡ false → begins n c log e ≡ false
+other_begins log n conn c e acts other =
+    begins_act log e n c (act.SendStep conn n) acts ∙ (ap (λ b. b && is_done e.reply) (same_conn n conn c) ∙ ap (λ b. b && is_done e.reply) other)
 
 -- where that has begun before, its router is to know of the same connections
 pub step_hears : (log : List Entry) (e : Entry) (n conn : ℕ) → e.event.act ≡ act.SendStep conn n → is_end e.reply ≡ false → is_begun log n conn ≡ true → HearsTheSame log e n
 step_hears log e n conn acts lives begun =
-    hears_again log e n conn begun (λ c other. other_begins n conn c e acts other) (λ c. ends_none-reply e n c lives) (λ c. connections_of-unmade log e n (ap (steps_spawner n) acts) c)
+    hears_again log e n conn begun (λ c other. other_begins log n conn c e acts other) (λ c. ends_none-reply log e n c lives) (λ c. connections_of-unmade log e n (ap (steps_spawner n) acts) c)
 
 -- and where it does not end, no end of a link is dropped
 pub step_drops : (log : List Entry) (e : Entry) (n conn : ℕ) → e.event.act ≡ act.SendStep conn n → is_end e.reply ≡ false → DropsNone log e
 step_drops log e n conn acts lives = drops_of-send log e conn n acts ∙ ap (λ b. all_of (cond b (half_end (half_at log n conn)) None)) lives
 
--- what a connection takes of it
-pub step_answers : (log : List Entry) (e : Entry) (n conn c : ℕ) → e.event.act ≡ act.SendStep conn n → answers_by n c log e ≡ cond (c == conn) (map is_answer (taken log e)) []
-step_answers log e n conn c acts =
-    ap (λ a. cond (steps_sender n c a) (map is_answer (taken log e)) []) acts ∙ ap (λ b. cond b (map is_answer (taken log e)) []) (same_conn n conn c)
-
 -- a connection that runs goes on to run
-pub still_runs : (log : List Entry) (e : Entry) (n conn c : ℕ) → e.event.act ≡ act.SendStep conn n → is_running log n conn ≡ true → is_running (log ++ e ∷ []) n c ≡ is_running log n c
-still_runs log e n conn c acts runs =
-    is_running-append log e n c ∙ (ap (λ b. is_running log n c || list_any (λ t. t) b) (step_answers log e n conn c acts) ∙ by_conn (c == conn) refl)
+pub still_runs : (log : List Entry) (e : Entry) (n conn c : ℕ) → e.event.act ≡ act.SendStep conn n → has_run log n conn ≡ true → has_run (log ++ e ∷ []) n c ≡ has_run log n c
+still_runs log e n conn c acts ran = has_run-append log e n c ∙ by_conn (c == conn) refl
   where
-    or_nothing : (b : Bool) → (b || false) ≡ b
-    or_nothing true = refl
-    or_nothing false = refl
-
     already : (b t : Bool) → b ≡ true → (b || t) ≡ b
     already true t h = refl
     already false t h = cc
 
-    by_conn : (b : Bool) → (c == conn) ≡ b → (is_running log n c || list_any (λ t. t) (cond b (map is_answer (taken log e)) [])) ≡ is_running log n c
-    by_conn true h = already (is_running log n c) (list_any (λ t. t) (map is_answer (taken log e))) (ap (is_running log n) (eqb-true c conn h) ∙ runs)
-    by_conn false h = or_nothing (is_running log n c)
-
-any_of : (b a : Bool) → list_any (λ t. t) (cond b (a ∷ []) []) ≡ (b && a)
-any_of true true = refl
-any_of true false = refl
-any_of false a = refl
+    by_conn : (b : Bool) → (c == conn) ≡ b → (has_run log n c || runs n c log e) ≡ has_run log n c
+    by_conn true h = already (has_run log n c) (runs n c log e) (ap (has_run log n) (eqb-true c conn h) ∙ ran)
+    by_conn false h =
+        ap (λ b. has_run log n c || b) (runs_is log e n c ∙ ap (λ b. b && list_any is_answer (taken log e)) (other_begins log n conn c e acts h)) ∙ or_false (has_run log n c)
 
 -- a step of a sending half receives nothing
 pub step_receives : (configs : List Config) (log : List Entry) (e : Entry) (n conn : ℕ) → e.event.act ≡ act.SendStep conn n → ((c : ℕ) → line (log ++ e ∷ []) (queue.Held n c) ≡ line log (queue.Held n c)) → ReceivesNone configs log e n
 step_receives configs log e n conn acts held = receives_apart configs log e n (act.SendStep conn n) acts (λ c. refl) held
 
-took_stands : (configs : List Config) (log : List Entry) (e : Entry) (n conn : ℕ) (cs : Connections) (x : Envelope) (rest : List Envelope) → ConnectionsStand configs log n cs → ((c : ℕ) → PingsWhenDue configs log e n c) → is_begun log n conn ≡ true → is_running log n conn ≡ false
+took_stands : (configs : List Config) (log : List Entry) (e : Entry) (n conn : ℕ) (cs : Connections) (x : Envelope) (rest : List Envelope) → ConnectionsStand configs log n cs → ((c : ℕ) → PingsWhenDue configs log e n c) → is_begun log n conn ≡ true → has_run log n conn ≡ false
     → e.event.act ≡ act.SendStep conn n → e.reply ≡ reply.Ok → Takes log e n conn x rest
     → ConnectionsStand configs (log ++ e ∷ []) n (record cs { stages = stages_with (Some x) conn e.event.at cs.stages; answers = popped_at cs.answers conn })
 took_stands configs log e n conn cs x rest s pinging begun idle acts ok h = by (is_answer x.item) refl
   where
-    answers : (c : ℕ) → list_any (λ t. t) (answers_by n c log e) ≡ ((c == conn) && is_answer x.item)
-    answers c =
-        ap (list_any (λ (t : Bool). t)) (step_answers log e n conn c acts ∙ ap (λ t. cond (c == conn) (map is_answer t) []) (taken-first log e (queue.Ready n conn) x rest h.first h.takes))
-        ∙ any_of (c == conn) (is_answer x.item)
+    told_answer : (c : ℕ) → runs n c log e ≡ ((c == conn) && is_answer x.item)
+    told_answer c =
+        runs_is log e n c
+        ∙ (ap (λ b. b && list_any is_answer (taken log e)) (step_begins log n conn c e acts ok)
+        ∙ (ap (λ items. (c == conn) && list_any is_answer items) (taken-first log e (queue.Ready n conn) x rest h.first h.takes) ∙ ap (λ b. (c == conn) && b) (or_false (is_answer x.item))))
 
     waits : HoldsLines (queue.Ready n) (log ++ e ∷ []) (popped_at cs.answers conn)
     waits c = waits_taken (queue.Ready n) (same_ready n) log conn x rest cs.answers s.waits h.first c ∙ sym (line_begun log e n conn x rest (queue.Ready n c) h)
 
     spawns : SpawnsNone log e n
-    spawns c = live_connection-kept log e n c (ends_none-reply e n c (ap is_end ok)) (connections_of-unmade log e n (ap (steps_spawner n) acts) c)
+    spawns c = live_connection-kept log e n c (ends_none-reply log e n c (ap is_end ok)) (connections_of-unmade log e n (ap (steps_spawner n) acts) c)
 
     receives : ReceivesNone configs log e n
     receives = step_receives configs log e n conn acts (λ c. line_begun log e n conn x rest (queue.Held n c) h)
@@ -181,21 +167,13 @@ took_stands configs log e n conn cs x rest s pinging begun idle acts ok h = by (
     early : ping_is_due configs log n conn e.event.at ≡ false
     early = ap (is_past (ping_frequency_at configs n) e.event.at) (not_pinged configs log n cs s conn idle)
 
-    and_true : (b : Bool) → (b && true) ≡ b
-    and_true true = refl
-    and_true false = refl
-
-    and_false : (b : Bool) → (b && false) ≡ false
-    and_false true = refl
-    and_false false = refl
-
     by : (b : Bool) → is_answer x.item ≡ b
         → ConnectionsStand configs (log ++ e ∷ []) n (record cs { stages = cond b (insert_entry nat_cmp cs.stages conn (stage.Running e.event.at)) cs.stages; answers = popped_at cs.answers conn })
     by true is =
-        connections_ran configs log e n conn e.event.at cs (popped_at cs.answers conn) s pinging spawns begun idle refl (λ c. step_begins n conn c e acts ok) (λ c. answers c ∙ (ap (λ b. (c == conn) && b) is ∙ and_true (c == conn))) receives waits
+        connections_ran configs log e n conn e.event.at cs (popped_at cs.answers conn) s pinging spawns begun idle refl (λ c. step_begins log n conn c e acts ok) (λ c. told_answer c ∙ (ap (λ b. (c == conn) && b) is ∙ and_true (c == conn))) receives waits
     by false is =
-        connections_stepped configs log e n conn cs (popped_at cs.answers conn) s pinging spawns begun (λ c other. other_begins n conn c e acts other)
-        (λ c. running-kept log e n c (answers c ∙ (ap (λ b. (c == conn) && b) is ∙ and_false (c == conn)))) early receives waits
+        connections_stepped configs log e n conn cs (popped_at cs.answers conn) s pinging spawns begun (λ c other. other_begins log n conn c e acts other)
+        (λ c. running-kept log e n c (told_answer c ∙ (ap (λ b. (c == conn) && b) is ∙ and_false (c == conn)))) early receives waits
 
 abbrev pub named_parts : List place.Part
 named_parts = place.connections ∷ place.router ∷ place.tracker ∷ []
@@ -204,19 +182,19 @@ named_parts = place.connections ∷ place.router ∷ place.tracker ∷ []
 pub step_untold : (log : List Entry) (e : Entry) (n conn : ℕ) → e.event.act ≡ act.SendStep conn n → is_end e.reply ≡ false → line (log ++ e ∷ []) (queue.Tracker n) ≡ line log (queue.Tracker n)
     → ((q : Queue) → is_told n q ≡ true → line (log ++ e ∷ []) q ≡ line log q) → LeavesTracker log e n
 step_untold log e n conn acts lives mailbox told = record {
-  no_end = λ c. ends_none-reply e n c lives;
+  no_end = λ c. ends_none-reply log e n c lives;
   no_step = ap (steps_tracker n) acts;
   no_question = ap (asks_of n) acts;
-  no_answer = λ d h. ap (λ a. answers d a e.reply) acts;
-  no_late_answer = λ d h. ap (λ a. answers d a e.reply) acts;
-  handshakes = handshakes_unmoved log e n (ap (is_of_listener n) acts);
+  no_answer = λ d h. ap (λ a. takes_answer d a e.reply) acts;
+  no_late_answer = λ d h. ap (λ a. takes_answer d a e.reply) acts;
+  handshakes = handshakes_of-apart log e n (ap (λ a. are_apart (kinds_of a) handshake_kinds) acts);
   mailbox = mailbox;
   told = told;
 }
 
 -- it takes what its router answered, where there is something
 pub run_performs : (configs : List Config) (log : List Entry) (at seed conn n : ℕ) (half : Half) (xs : List Envelope) (x y : Node) (l links : Links) (r : Row) → NodeStands configs log n x → LinksStand configs log l
-    → is_up log n ≡ true → live_half log n conn ≡ Some half → is_begun log n conn ≡ true → is_running log n conn ≡ false → waiting x.connections.answers conn ≡ xs → Runs conn at x y r → links ≡ l
+    → is_up log n ≡ true → live_half log n conn ≡ Some half → is_begun log n conn ≡ true → has_run log n conn ≡ false → waiting x.connections.answers conn ≡ xs → Runs conn at x y r → links ≡ l
     → Performs configs log (asked at seed (act.SendStep conn n)) n y links r
 unfolding effect row
 run_performs configs log at seed conn n half [] x y l links r s t up has begun idle is d kept =
@@ -244,6 +222,7 @@ run_performs configs log at seed conn n half [] x y l links r s t up has begun i
                 subst (ConnectionsStand configs (log ++ e ∷ []) n) (sym (ap (λ (z : Node). z.connections) parts))
                 (record {
                   spawned = old.spawned;
+                  reserved = old.reserved;
                   begun = old.begun;
                   running = old.running;
                   pinged = old.pinged;

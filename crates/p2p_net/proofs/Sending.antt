@@ -10,7 +10,7 @@ use Rattle.p2p_log.specs.declared.queue.Queue.TheVariants as queue
 use Rattle.p2p_log.specs.Lines.{line}
 use Rattle.p2p_log_rules.specs.declared.row.Half.{Half}
 use Rattle.p2p_log_rules.specs.declared.row.Row.{Row}
-use Rattle.p2p_log_rules.specs.Connections.{live_half, is_running}
+use Rattle.p2p_log_rules.specs.Connections.{live_half, has_run}
 use Rattle.p2p_log_rules.specs.Effect.{only, row, sender_row}
 use Rattle.p2p_log_rules.specs.Facts.{is_up}
 use Rattle.p2p_log_rules.specs.Pings.{is_past}
@@ -38,7 +38,7 @@ use Rattle.p2p_net.proofs.Working.{work_performs}
 use Rattle.p2p_net.proofs.Writing.{due_is}
 
 module _ (configs : List Config) (log : List Entry) (at seed conn n : ℕ) (x y : Node) (l links : Links) (r : Row) (s : NodeStands configs log n x) (t : LinksStand configs log l) (one : ConnectionsAreOne log)
-    (heard : is_running log n conn ≡ true → Each (λ z. names_ready conn z.item ≡ false) (line log (queue.Router n))) where
+    (heard : has_run log n conn ≡ true → Each (λ z. names_ready conn z.item ≡ false) (line log (queue.Router n))) where
   abbrev Done : Type 0
   Done = Performs configs log (asked at seed (act.SendStep conn n)) n y links r
 
@@ -62,7 +62,7 @@ module _ (configs : List Config) (log : List Entry) (at seed conn n : ℕ) (x y 
   at_stage half (Some stage.Begun) up has is d =
       run_performs configs log at seed conn n half (waiting x.connections.answers conn) x y l links r s t up has (sym (connects.begun conn) ∙ ap (λ (p : Option Stage). is_some p) is) (sym (connects.running conn) ∙ ap runs_on is) refl d.0 d.1
   at_stage half (Some (stage.Running pinged)) up has is d =
-      let running : is_running log n conn ≡ true = sym (connects.running conn) ∙ ap runs_on is in
+      let running : has_run log n conn ≡ true = sym (connects.running conn) ∙ ap runs_on is in
       work_performs configs log at seed conn n half (is_past x.config.ping_frequency at (Some pinged)) x y l links r s t up has
       (sym (connects.begun conn) ∙ ap (λ (p : Option Stage). is_some p) is) running (heard running) (due_is configs log n conn at pinged x s is) d
 

@@ -42,7 +42,7 @@ use Rattle.p2p_net.proofs.Readying.{started_is}
 use Rattle.p2p_net.proofs.Performing.{asked, Performs, IsStill, line-still, part_still, stays_performs}
 use Rattle.p2p_net_tracker.proofs.Steps.{first_taken}
 use Rattle.p2p_log_rules.specs.Connections.{is_begun, is_ended, live_connection}
-use Rattle.p2p_log_rules.proofs.Connections.{is_ended-kept, ends_none-act}
+use Rattle.p2p_log_rules.proofs.Connections.{is_ended-kept, ends_untold}
 
 -- a connection of a new name is one of those that live
 live_named : (log : List Entry) (n conn : ℕ) (c : Spawned) → is_ended log n (length log) ≡ false
@@ -135,7 +135,7 @@ module _ (configs : List Config) (log : List Entry) (moment seed n : ℕ) (x y :
       let c : Spawned = record { key = peer_of w.reservation; link = w.link } in
       let made : (conn : ℕ) → live_connection (log ++ e due ∷ []) n conn ≡ with_named (length log) (Some c) (live_connection log n) conn =
       λ conn.
-      ap (λ b. cond b None (connections_of (log ++ e due ∷ []) n conn)) (is_ended-kept log (e due) n conn (ends_none-act (e due) n conn a refl refl))
+      ap (λ b. cond b None (connections_of (log ++ e due ∷ []) n conn)) (is_ended-kept log (e due) n conn (ends_untold log (e due) n conn a refl refl))
       ∙ (ap (λ o. cond (is_ended log n conn) None o)
       (connections_of-acted log (e due) n true (eq-eqb n n refl) conn
       ∙ ap (λ (items : List Item). with_begun (spawned_of items) (length log) (connections_of log n) conn) (took ∙ ap (λ i. i ∷ []) takes.item))
@@ -144,7 +144,7 @@ module _ (configs : List Config) (log : List Entry) (moment seed n : ℕ) (x y :
       performs due is (d.0 ∙ ap taken_row takes.name) (subst (λ z. z ≡ with_parts both x z) (sym d.1) refl)
       (subst (SpawnerStands configs (log ++ e due ∷ []) n) (sym (ap (λ (z : Node). z.spawning) d.1)) (spawner_less configs log (e due) n x.spawning spawns left))
       (subst (ConnectionsStand configs (log ++ e due ∷ []) n) (sym (ap (λ (z : Node). z.connections) d.1))
-      (connections_spawned configs log (e due) n w.link w.reservation x.connections connects made (begins_unsent log (e due) n a refl (λ conn. refl))
+      (connections_spawned configs log (e due) n w.link w.reservation x.connections connects made takes.side (begins_unsent log (e due) n a refl (λ conn. refl))
       (receives_apart configs log (e due) n a refl (λ conn. refl) (λ conn. line-taken log (e due) q z zs (queue.Held n conn) first refl ∙ append-nil (line log (queue.Held n conn))))
       (λ conn. line-taken log (e due) q z zs (queue.Ready n conn) first refl ∙ append-nil (line log (queue.Ready n conn)))))
 

@@ -32,7 +32,7 @@ use Rattle.p2p_net.proofs.Frames.{links_kept, begins_unsent}
 use Rattle.p2p_net.proofs.Receivers.{receives_apart}
 use Rattle.p2p_net.proofs.Routers.{hears_aside, RouterStands-moved}
 use Rattle.p2p_net.proofs.Performing.{asked, Performs, stays_performs}
-use Rattle.p2p_log_rules.proofs.Connections.{live_connection-kept, ends_none-act}
+use Rattle.p2p_log_rules.proofs.Connections.{live_connection-kept, ends_untold}
 
 -- the line of a queue to which the row adds
 line-adds : (log : List Entry) (ev : Event) (r : Row) (n c : ℕ) → Adds (length log) r (live log) (queue.Ready n c)
@@ -79,7 +79,7 @@ route_on configs log at seed n true x y l links r s t started d kept =
                 (ap (λ (z : Router). z.number) calls.rest) (ap (λ (z : Router). z.peers) calls.rest),
             (
               subst (ConnectionsStand configs (log ++ e ∷ []) n) (sym (ap (λ (z : Node). z.connections) parts))
-                  (connections_answered configs log e n x.connections (answered (length log) n 0 r.puts x.connections.answers) conn (λ c. live_connection-kept log e n c (ends_none-act e n c (act.Router n) refl refl) (connections_of-unmade log e n refl c)) (begins_unsent log e n (act.Router n) refl (λ c. refl))
+                  (connections_answered configs log e n x.connections (answered (length log) n 0 r.puts x.connections.answers) conn (λ c. live_connection-kept log e n c (ends_untold log e n c (act.Router n) refl refl) (connections_of-unmade log e n refl c)) (begins_unsent log e n (act.Router n) refl (λ c. refl))
                   (receives_apart configs log e n (act.Router n) refl (λ c. refl) (λ c. line-untouched configs log ev (queue.Held n c) refl refl refl))
                   (λ c. waiting-answered (length log) n 0 c r.puts x.connections.answers ∙ (ap (λ w. w ++ filter (stands_in (queue.Ready n c)) (placed (length log) 0 r.puts)) (conn.waits c) ∙ sym (adds c)))),
               tt,

@@ -15,9 +15,10 @@ use Rattle.p2p_log.specs.declared.entry.Reply.TheVariants as reply
 use Rattle.p2p_log.specs.declared.event.Act.TheVariants as act
 use Rattle.p2p_log.specs.QueueCode.{same_queue}
 use Rattle.p2p_log.specs.Lines.{line, name_of, placed, stands_in, ended_item}
+use Rattle.p2p_log_rules.proofs.Connections.{running_of}
 use Rattle.p2p_log_rules.specs.declared.row.Half.{Half}
 use Rattle.p2p_log_rules.specs.declared.row.Row.{Row}
-use Rattle.p2p_log_rules.specs.Connections.{live_half, is_running, is_end}
+use Rattle.p2p_log_rules.specs.Connections.{live_half, has_run, is_end}
 use Rattle.p2p_log_rules.specs.Facts.{is_up, events_of, latest_moment, taken, registers_at}
 use Rattle.p2p_log_rules.specs.Metering.{Metered, messages, is_of, metered_in, holds, limit_at, admitted_by}
 use Rattle.p2p_log_rules.specs.Effect.{only, receiver_row, receiving_row, recv_step_row}
@@ -50,14 +51,14 @@ stepped_row configs log conn n at o runs = elim o [
   | Some half ↦ cond runs (receiver_row configs log n conn at half) (only reply.Idle)
 ]
 
-pub stepped_as : (configs : List Config) (log : List Entry) (conn n at : ℕ) (o : Option Half) (runs : Bool) → is_up log n ≡ true → live_half log n conn ≡ o → is_running log n conn ≡ runs
+pub stepped_as : (configs : List Config) (log : List Entry) (conn n at : ℕ) (o : Option Half) (runs : Bool) → is_up log n ≡ true → live_half log n conn ≡ o → has_run log n conn ≡ runs
     → recv_step_row configs log conn n at ≡ stepped_row configs log conn n at o runs
 stepped_as configs log conn n at o runs up has is =
-    ap (λ b. cond b (receiving_row configs log n conn at (live_half log n conn)) (only reply.Gone)) up ∙ (ap (receiving_row configs log n conn at) has ∙ by o)
+    ap (λ b. cond b (receiving_row configs log n conn at (live_half log n conn)) (only reply.Gone)) up ∙ (ap (receiving_row configs log n conn at) has ∙ by o has)
   where
-    by : (o : Option Half) → receiving_row configs log n conn at o ≡ stepped_row configs log conn n at o runs
-    by None = refl
-    by (Some half) = ap (λ b. cond b (receiver_row configs log n conn at half) (only reply.Idle)) is
+    by : (o : Option Half) → live_half log n conn ≡ o → receiving_row configs log n conn at o ≡ stepped_row configs log conn n at o runs
+    by None lived = refl
+    by (Some half) lived = ap (λ b. cond b (receiver_row configs log n conn at half) (only reply.Idle)) (running_of log n conn half lived ∙ is)
 
 -- ---- queues of different kinds
 
@@ -162,7 +163,7 @@ module _ (configs : List Config) (log : List Entry) (n conn at : ℕ) (e : Entry
 
   -- ---- the channels
 
-  module _ (ch : Channels) (s : ChannelsStand configs log n ch) (registers : registers_at configs n e.event.act ≡ []) (sends : SendsNone log e n) (closes : ClosesNone e n) where
+  module _ (ch : Channels) (s : ChannelsStand configs log n ch) (registers : registers_at configs n e.event.act ≡ []) (sends : SendsNone log e n) (closes : ClosesNone log e n) where
     -- a message came whose quota says this, by what the entry admits and which messages wait then
     pub message_channels : (c : ℕ) (w : List (ℕ × List Envelope)) → ((d q : ℕ) → admitted_by limit n d (messages q) log e ≡ cond ((d == conn) && ((q == c) && may_admit ch c conn at)) (at ∷ []) [])
         → e.event.at ≡ at → HoldsLines (queue.Channel n) (log ++ e ∷ []) w → ChannelsStand configs (log ++ e ∷ []) n (record (metered c conn at ch) { waiting = w })

@@ -1,8 +1,9 @@
 -- A queue of a place that an act does not name stays as it was.
-use Rattle.std.proofs.Common.{◌≡◌, ℕ, Bool, true, false, List, [], ◌∷◌, ◌++◌, refl, ap, ◌∙◌, arith, Option, Some, None}
+use Rattle.std.proofs.Common.{◌≡◌, ℕ, Bool, true, false, List, [], ◌∷◌, ◌++◌, refl, ap, sym, ◌∙◌, arith, Option, Some, None}
 use Rattle.std.specs.Prelude.{◌||◌, ◌&&◌, ◌==◌, slice_get}
 use Rattle.std.specs.List.{list_any}
 use Rattle.std.proofs.lemmas.Bool.Decides.{nat_tests}
+use Rattle.p2p_log_rules.proofs.Bools.{and_false}
 use Rattle.p2p_log.specs.declared.config.Config.{Config}
 use Rattle.p2p_log.specs.declared.queue.Queue.{Queue}
 use Rattle.p2p_log.specs.declared.queue.Queue.TheVariants as queue
@@ -21,15 +22,16 @@ use Rattle.p2p_log_rules.specs.Attempting.{attempts_of}
 use Rattle.p2p_log_rules.specs.Dropping.{LinkEnd, other_side, dialing_end, arriving_end, half_end}
 use Rattle.p2p_log_rules.specs.Effect.{effect}
 use Rattle.p2p_log_rules.specs.Handshakes.{peer_at}
-use Rattle.p2p_log_rules.specs.Checking.{checking_node}
+use Rattle.p2p_log_rules.specs.Checking.{Check, check_of}
 use Rattle.p2p_log_rules.specs.Links.{openings_of}
 use Rattle.p2p_log_rules.specs.declared.row.Half.{Half}
 use Rattle.p2p_log_rules.specs.Connections.{half_at}
-use Rattle.p2p_log_rules.proofs.Touches.{are_all, in_lists, in_router, in_mailboxes, in_half, in_link, in_held, in_channels, in_tracker, in_handshakes, in_ends, is_told_to, away}
+use Rattle.p2p_log_rules.proofs.Touches.{are_all, in_lists, in_mailbox_of, in_router, in_mailboxes, in_half, in_link, in_held, in_channels, in_tracker, in_handshakes, in_ends, is_told_to, away}
 use Rattle.p2p_log_rules.specs.Tracking.{asked_by}
 use Rattle.p2p_log_laws.proofs.Reaching.{in_control, in_flight, in_connection, reads, writes, ends_in}
 use Rattle.p2p_log_laws.proofs.Untouched.{line-untouched}
-use Rattle.p2p_net.specs.Places.{home, names, at, router, channels, connections, tracker, dialer, listener, spawner, links, same_place, ends_named, asked_node, or_first, node_asked}
+use Rattle.p2p_net.specs.Places.{home, names, at, router, channels, connections, tracker, dialer, listener, spawner, links, same_place, ends_named, asked_node, or_first, node_asked, node_checking}
+use Rattle.p2p_net.proofs.Receivers.{checking_is}
 
 -- ---- what the kinds of queues that an act reaches are of
 
@@ -48,14 +50,10 @@ router_kinds n (queue.Low m c) h k = grind (arith, nat_tests)
 router_kinds n _ h k = refl
 
 list_kinds : (n c : ℕ) (to : Recipients) (q : Queue) → same_place (at router n) (home q) ≡ false → in_lists to n c q ≡ false
-list_kinds n c to (queue.Peers m d) h = ap (λ b. are_all to && (b && (d == c))) (other_router n m h) ∙ never (are_all to)
+list_kinds n c to (queue.Peers m d) h = ap (λ b. are_all to && (b && (d == c))) (other_router n m h) ∙ and_false (are_all to)
   where
     other_router : (n m : ℕ) → (n == m) ≡ false → (m == n) ≡ false
     other_router n m h = grind (arith, nat_tests)
-
-    never : (b : Bool) → (b && false) ≡ false
-    never true = refl
-    never false = refl
 list_kinds n c to _ h = refl
 
 link_kinds : (o : Option Half) (q : Queue) → same_place links (home q) ≡ false → in_link o q ≡ false
@@ -258,12 +256,22 @@ reads-named configs log (act.Spawner n) q h = spawner_queue n q (first_false (sa
 reads-named configs log (act.Attempt e n) q h = attempt_queue n e q (off_attempt log e n q h).third
 reads-named configs log _ q h = refl
 
+-- the mailbox to which a message goes by a check
+mailbox_queue : (log : List Entry) (check : ℕ) (q : Queue) → same_queue (queue.Router (node_checking (slice_get log check))) q ≡ false → in_mailbox_of (check_of log check) q ≡ false
+mailbox_queue log check (queue.Router n) h = by (check_of log check) refl
+  where
+    by : (o : Option Check) → check_of log check ≡ o → in_mailbox_of o (queue.Router n) ≡ false
+    by None is = refl
+    by (Some c) is = ap (λ m. same_queue (queue.Router m) (queue.Router n)) (sym (checking_is log check c is)) ∙ h
+mailbox_queue log check _ h = refl
+
 writes-named : (configs : List Config) (log : List Entry) (a : Act) (q : Queue) → names log a (home q) ≡ false → writes configs log a q ≡ false
 writes-named configs log (act.Start n) q h = router_queue n q (first_false (same_place (at router n) (home q)) (same_place (at dialer n) (home q) || false) h)
 writes-named configs log (act.Send bytes c n priority to) q h = router_queue n q (second_of_two (same_place (at channels n) (home q)) (same_place (at router n) (home q)) h)
 writes-named configs log (act.Close c n) q h = channel_queue n c q (first_false (same_place (at channels n) (home q)) false h)
 writes-named configs log (act.SendChecked bytes check priority) q h =
-    let n = checking_node log check in router_queue n q (second_of_two (same_place (at channels n) (home q)) (same_place (at router n) (home q)) h)
+    mailbox_queue log check q
+    (let n = node_checking (slice_get log check) in router_queue n q (second_of_two (same_place (at channels n) (home q)) (same_place (at router n) (home q)) h))
 writes-named configs log (act.Router n) q h =
     router_kinds n q (first_false (same_place (at router n) (home q)) (same_place (at connections n) (home q) || false) h)
     (first_false (same_place (at connections n) (home q)) false (second_false (same_place (at router n) (home q)) (same_place (at connections n) (home q) || false) h))

@@ -1,6 +1,6 @@
 -- The steps of the attempts of a node's dialer.
-use Rattle.std.proofs.Common.{◌≡◌, ℕ, ◌+◌, Bool, true, false, cond, List, [], ◌∷◌, ◌++◌, map, length, refl, ap, sym, subst, ◌∙◌, eq-eqb, Option, Some, None}
-use Rattle.std.specs.Prelude.{nat_le, not, filter}
+use Rattle.std.proofs.Common.{◌≡◌, ℕ, ◌+◌, Bool, true, false, cond, List, [], ◌∷◌, ◌++◌, map, length, refl, ap, sym, subst, ◌∙◌, Option, Some, None}
+use Rattle.std.specs.Prelude.{min, nat_le, not, filter}
 use Rattle.std.specs.Option.{option_map}
 use Rattle.p2p_base.specs.declared.key.Key.{Key}
 use Rattle.p2p_address.specs.declared.ip.SocketAddr.{SocketAddr}
@@ -33,17 +33,23 @@ use Rattle.p2p_log.specs.declared.event.Act.TheVariants as act
 use Rattle.p2p_log.specs.QueueCode.{same_queue}
 use Rattle.p2p_log.specs.Lines.{name_of, goes, stays, stands_in, live, line}
 use Rattle.p2p_log.proofs.Queues.{same_queue-refl}
+use Rattle.p2p_log_rules.proofs.Connections.{ends_untold}
 use Rattle.p2p_log_rules.specs.declared.row.Row.{Row}
-use Rattle.p2p_log_rules.specs.Attempting.{Attempt, DialRules, dial_rules_at, drawn_address, dialing, resolved, attempts_of, left_ends, given_up_row, gone_on_row, resolved_row, ready_row, link_of, took_row, attempt_turn, attempt_by, attempt_row}
-use Rattle.p2p_log_rules.proofs.Attempts.{linked, stepped_attempt, and_then, Heeds, attempts_of-append, attempts_acted}
+use Rattle.p2p_log_rules.specs.Attempting.{Attempt, DialRules, dial_rules_at, drawn_address, dialing, resolved, attempts_of, left_ends, given_up_row, gone_on_row, resolved_row, ready_row, link_of, attempt_took_row, attempt_turn, attempt_by, attempt_row}
+use Rattle.p2p_log_rules.specs.Tellings.{or_new}
+use Rattle.p2p_log_rules.specs.Told.{took_tells}
+use Rattle.p2p_log_rules.proofs.Attempts.{attempt_told}
+use Rattle.p2p_log_rules.proofs.AttemptTellings.{none_tried, attempts_of-others, resolved_told, linked_told, attempts_of-stepped}
 use Rattle.p2p_log_rules.proofs.Dialing.{dials_of-kept}
 use Rattle.p2p_log_rules.proofs.Dropping.{drops_of-attempt}
-use Rattle.p2p_log_rules.proofs.Trying.{RowAgrees, dropping_agrees, row_agrees}
+use Rattle.p2p_log_rules.specs.Dialed.{dialer_of}
 use Rattle.p2p_log_rules.specs.Dropping.{LinkEnd, dialing_end, attempt_drops, attempt_step_row}
-use Rattle.p2p_log_rules.specs.Puts.{gave_up}
+use Rattle.p2p_log_rules.specs.Puts.{gave_up, ends_attempt}
 use Rattle.p2p_log_rules.specs.Effect.{only, row, entry_of}
-use Rattle.p2p_log_rules.specs.Facts.{taken, with_named}
+use Rattle.p2p_log_rules.specs.Facts.{taken}
 use Rattle.p2p_log_rules.specs.Rows.{is_spawner_full}
+use Rattle.p2p_log_rules.proofs.Handshakes.{handshakes_of-apart}
+use Rattle.p2p_log_laws.proofs.HandedSides.{AttemptDialed}
 use Rattle.p2p_net_queues.specs.Board.{held}
 use Rattle.p2p_net_queues.specs.Rows.{item_ends}
 use Rattle.p2p_net_queues.specs.Tables as table
@@ -58,24 +64,27 @@ use Rattle.p2p_net_dialer.proofs.Changes.{private_is, handshake_timeout_is}
 use Rattle.p2p_net_dialer.proofs.Dropping.{attempt_end}
 use Rattle.p2p_net_links.specs.Stands.{LinksStand}
 use Rattle.p2p_net_links.specs.declared.links.Links.{Links}
+use Rattle.p2p_net_connections.specs.Dialing.{IsReservedOver}
 use Rattle.p2p_net_connections.specs.Spawner.{refuses}
 use Rattle.p2p_net_connections.specs.SpawnerStands.{SpawnerStands}
 use Rattle.p2p_net_connections.proofs.SpawnerChanges.{spawner_refuses}
 use Rattle.p2p_net_tracker.specs.Dialed.{names_asked}
+use Rattle.p2p_net_tracker.specs.GivenBack.{side_freed_by, IsOfSide, IsGivenBack}
 use Rattle.p2p_net_tracker.specs.Stands.{is_told, TrackerStands}
 use Rattle.p2p_net_tracker.specs.declared.tracker.Tracker.{Tracker}
 use Rattle.p2p_net_tracker.proofs.DialerSteps.{tracker_dialed}
-use Rattle.p2p_net_tracker.proofs.Moved.{asked_line, names_are, asked_messages, asked_desk, IsAsked, asked_match, desk_grows}
+use Rattle.p2p_net_tracker.proofs.GivenBack.{given_now, attempt_gives}
+use Rattle.p2p_net_tracker.proofs.Moved.{asked_line, names_are, asked_messages, asked_desk, IsAsked, asked_match, asked_back, desk_grows}
 use Rattle.p2p_net_tracker.proofs.Steps.{none_taken, first_taken}
 use Rattle.p2p_net.specs.Acts.{HandsOn, TriesAttempt, AttemptSteps}
 use Rattle.p2p_net.specs.Places as place
 use Rattle.p2p_net.specs.Spawning.{release_item}
 use Rattle.p2p_net.specs.Stands.{PartStands, NodeStands}
 use Rattle.p2p_net.specs.declared.node.Node.{Node}
-use Rattle.p2p_net.proofs.Attempting.{other_attempt}
-use Rattle.p2p_net.proofs.DroppedEnds.{dropped, dropping_is, goes_by, is_of_link, told_unlinked, unlinked_stay, LeavesLinks, end_by, DidBeside, performs_beside}
+use Rattle.p2p_net.proofs.Attempting.{other_named, other_attempt}
+use Rattle.p2p_net.proofs.DroppedEnds.{dropped, goes_by, is_of_link, told_unlinked, unlinked_stay, LeavesLinks, end_by, DidBeside, performs_beside}
 use Rattle.p2p_net.proofs.EachPart.{AllOf, not_among-links}
-use Rattle.p2p_net.proofs.HandingOn.{Handed, nothing, question, connection, handed_puts, item_in, message_in, spawner_after, HandedOn, nothing_asked, question_asked, connection_refused, connection_asked}
+use Rattle.p2p_net.proofs.HandingOn.{Handed, nothing, question, connection, handed_puts, item_in, message_in, spawner_after, IsOnItsSide, asked_on_its_side, HandedOn, nothing_asked, question_asked, connection_refused, connection_asked}
 use Rattle.p2p_net.proofs.HandingOn.{all_gone, none_gone, handed_unlinked, line_asked, line_elsewhere, line_told, handed_spawner, tracker_after}
 use Rattle.p2p_net.proofs.Performing.{asked, Performs}
 
@@ -103,7 +112,8 @@ linked_elsewhere n name side.In j = refl
 abbrev named : List place.Part
 named = place.tracker ∷ place.dialer ∷ place.spawner ∷ []
 
-module _ (configs : List Config) (log : List Entry) (moment seed name n : ℕ) (x y : Node) (r : Row) (s : NodeStands configs log n x) (steps : TriesAttempt (length log) n name moment seed x y r) (lost : Option LinkEnd) where
+module _ (configs : List Config) (log : List Entry) (moment seed name n : ℕ) (x y : Node) (r : Row) (s : NodeStands configs log n x) (steps : TriesAttempt (length log) n name moment seed x y r) (dials : AttemptDialed configs log n name)
+    (lost : Option LinkEnd) where
   abbrev ev : Event
   ev = asked moment seed (act.Attempt name n)
 
@@ -159,19 +169,17 @@ module _ (configs : List Config) (log : List Entry) (moment seed name n : ℕ) (
   row_by : (b : Option Attempt) → attempts name ≡ b → attempt_row configs log name n moment seed ≡ attempt_by b n moment seed full private (line log q)
   row_by b is = ap (λ o. attempt_by o n moment seed full private (line log q)) is
 
-  -- what it put agrees with what is left of the attempt
-  heeds : (due : Row) → attempt_row configs log name n moment seed ≡ due → Heeds rules n (length log) moment seed due.reply (taken log (e due)) due.puts (act.Attempt name n) attempts
-  heeds due row_is = λ here b stands.
-      subst (λ (z : Row). RowAgrees configs log name n moment seed ev z b) (dropping_is log lost due)
-      (dropping_agrees configs log name n moment seed ev lost due b
-      (subst (λ (z : Row). RowAgrees configs log name n moment seed ev z b) row_is (row_agrees configs log name n moment seed ev b stands)))
+  -- what is told of it of what it took
+  abbrev took : List Item → Option Attempt → Option Attempt
+  took items o = attempt_told rules n name (took_tells n name moment seed items) o
 
   -- a turn that put nothing of its own, and handed this on: these are left in the line of the attempt, which is this then
   module _ (base : Row) (o : Handed) (way : Mailbox Key) (left : List Envelope) (now : Option RunningAttempt) (next : Option Attempt) (none : base.puts ≡ []) (on : HandedOn (length log) n o way mid y base r)
       (row_is : attempt_row configs log name n moment seed ≡ record base { puts = handed_puts n o })
       (way_is : way ≡ record m { desk = asked_desk m.desk (message_in o) }) (says : IsAsked x.tracker.tickets log (item_in o) (message_in o))
+      (right : IsOnItsSide log (e (record base { puts = handed_puts n o })) n o)
       (but : AreBut name now x.dialing.attempts mid.dialing.attempts)
-      (becomes : and_then (stepped_attempt rules moment seed base.reply (taken log (e (record base { puts = handed_puts n o })))) (attempts name) ≡ next)
+      (becomes : cond (ends_attempt (handed_puts n o)) None (took (taken log (e (record base { puts = handed_puts n o }))) (attempts name)) ≡ next)
       (stay : (p : Queue) → filter (stands_in p) (filter (stays (goes_by (record base { puts = handed_puts n o }))) (live log)) ≡ cond (same_queue q p) left (line log p))
       (stands : AttemptStands g name now next left) where
     abbrev due : Row
@@ -201,10 +209,10 @@ module _ (configs : List Config) (log : List Entry) (moment seed name n : ℕ) (
         (tracker_dialed configs log (e due) n x.tracker after false (asked_line n (length log) (item_in o)) (asked_messages (message_in o)) tracked
         (record {
           no_step = refl;
-          no_end = λ conn. refl;
+          no_end = λ conn. ends_untold log (e due) n conn (e due).event.act refl refl;
           no_question = refl;
           no_answer = λ d. refl;
-          no_admission = refl;
+          no_admission = handshakes_of-apart log (e due) n refl;
           rest = ap (λ l. record after { names = x.tracker.names ++ l }) (sym (names_are n (length log) (item_in o)));
           items = grows.items;
           closed = grows.closed;
@@ -213,6 +221,7 @@ module _ (configs : List Config) (log : List Entry) (moment seed name n : ℕ) (
           updates = grows.updates;
           sets = grows.sets;
           each = asked_match x.tracker.tickets log n (length log) (item_in o) (message_in o) says;
+          given = asked_back x.tracker.tickets log (log ++ e due ∷ []) n (length log) (item_in o) (message_in o) says (asked_on_its_side log (e due) n o right);
           waits = line_asked log (e due) n o refl (left_in (queue.Tracker n) refl);
           lines = λ p own. line_told log (e due) n o refl p (line log p) own (left_in p (told_unlinked n p own) ∙ ap (λ c. cond c left (line log p)) (told_elsewhere n name p own));
           answered = refl;
@@ -227,11 +236,8 @@ module _ (configs : List Config) (log : List Entry) (moment seed name n : ℕ) (
           dials = dials_of-kept configs log (e due) n refl;
           actor = steps.actor;
           others = but;
-          tried = λ j.
-              attempts_of-append configs log (e due) n j
-              ∙ (attempts_acted configs log (e due) n j attempts (heeds due row_is)
-              ∙ (ap (λ b. cond b (with_named name (and_then (stepped_attempt rules moment seed due.reply (taken log (e due))) (attempts name)) attempts j) (attempts j)) (eq-eqb n n refl)
-              ∙ ap (λ w. with_named name w attempts j) becomes));
+          tried = attempts_of-stepped configs log (e due) n name refl ∙ becomes;
+          untried = λ j other. attempts_of-others configs log (e due) n j (act.Attempt name n) refl (none_tried n j n name moment (other_named n name j other));
           lines = λ j other.
               line_elsewhere log (e due) n o refl (queue.Attempt n j) (line log (queue.Attempt n j)) refl refl
               (left_in (queue.Attempt n j) refl ∙ ap (λ c. cond c left (line log (queue.Attempt n j))) (other_attempt n name j other));
@@ -241,7 +247,7 @@ module _ (configs : List Config) (log : List Entry) (moment seed name n : ℕ) (
     spawner_is : SpawnerStands configs (log ++ e due ∷ []) n y.spawning
     spawner_is =
         subst (SpawnerStands configs (log ++ e due ∷ []) n) (sym (on.spawner ∙ ap (spawner_after (length log) o) same_spawner))
-        (handed_spawner log (e due) n o refl configs x.spawning spawns (left_in (queue.Spawner n) refl))
+        (handed_spawner log (e due) n o refl configs x.spawning spawns right (left_in (queue.Spawner n) refl))
 
     turned : Done
     turned =
@@ -281,10 +287,10 @@ module _ (configs : List Config) (log : List Entry) (moment seed name n : ℕ) (
   -- ---- nothing is taken, and it goes on
 
   still : (rep : Reply) (o : Option RunningAttempt) (b : Option Attempt) → table.at x.dialing.attempts name ≡ o → attempts name ≡ b → attempt_row configs log name n moment seed ≡ only rep
-      → and_then (stepped_attempt rules moment seed rep []) b ≡ b → steps.tried ≡ record { row = only rep; released = None; ready = None } → AreBut name o x.dialing.attempts mid.dialing.attempts → mid.tracker.mailbox ≡ m → Done
-  still rep o b there is row_is becomes tried_is but same =
-      turned (only rep) nothing m (line log q) o b refl (asked_nothing (only rep) tried_is same) row_is refl tt but
-      (ap (λ i. and_then (stepped_attempt rules moment seed rep i) (attempts name)) (none_taken log (e (only rep)) refl) ∙ (ap (and_then (stepped_attempt rules moment seed rep [])) is ∙ becomes))
+      → steps.tried ≡ record { row = only rep; released = None; ready = None } → AreBut name o x.dialing.attempts mid.dialing.attempts → mid.tracker.mailbox ≡ m → Done
+  still rep o b there is row_is tried_is but same =
+      turned (only rep) nothing m (line log q) o b refl (asked_nothing (only rep) tried_is same) row_is refl tt tt but
+      (ap (λ i. took i (attempts name)) (none_taken log (e (only rep)) refl) ∙ is)
       (none_gone log q (line log q) refl) (subst (λ w. AttemptStands g name w b (line log q)) there (subst (λ w. AttemptStands g name (table.at x.dialing.attempts name) w (line log q)) is (stood.attempts name)))
 
   -- ---- by the turn of the attempt
@@ -300,6 +306,10 @@ module _ (configs : List Config) (log : List Entry) (moment seed name n : ℕ) (
     peer : peer_of reserved ≡ b.key
     peer = ap peer_of dialed
 
+    -- it is given back by an attempt
+    back : (due : Row) → due.puts ≡ (queue.Tracker n, item.Release (peer_of reserved)) ∷ [] → IsGivenBack (log ++ e due ∷ []) (length log) (message.Release reserved)
+    back due puts = given_now log (e due) reserved (subst (IsOfSide (side_freed_by log (e due))) (sym dialed) (attempt_gives log (e due) n name (queue.Tracker n) (peer_of reserved) refl puts))
+
     due_row : (xs : List Envelope) → line log q ≡ xs → attempt_row configs log name n moment seed ≡ attempt_turn n moment seed full private b xs
     due_row xs first = row_by (Some b) is ∙ ap (attempt_turn n moment seed full private b) first
 
@@ -310,12 +320,12 @@ module _ (configs : List Config) (log : List Entry) (moment seed name n : ℕ) (
     by_deadline true come none h =
         let base : Row = record { reply = reply.Ok; takes = []; puts = []; ends = [] } in
         turned base (release reserved) (with_message_in m (message.Release reserved)) [] None None refl (gave_back base reserved h.0 h.1.1)
-        (due_row [] none ∙ (ap (λ c. cond c (given_up_row n b.key [] []) (only reply.Idle)) come ∙ ap (λ key. given_up_row n key [] []) (sym peer))) refl (reserved, refl, refl) h.1.0
-        (ap (and_then (stepped_attempt rules moment seed reply.Ok (taken log (e (given_up_row n (peer_of reserved) [] []))))) is
-        ∙ ap (λ i. stepped_attempt rules moment seed reply.Ok i b) (none_taken log (e (given_up_row n (peer_of reserved) [] [])) refl))
+        (due_row [] none ∙ (ap (λ c. cond c (given_up_row n b.key [] []) (only reply.Idle)) come ∙ ap (λ key. given_up_row n key [] []) (sym peer))) refl (reserved, refl, refl)
+        (back (given_up_row n (peer_of reserved) [] []) refl) h.1.0
+        refl
         (none_gone log q [] none) refl
     by_deadline false come none h =
-        still reply.Idle (Some w) (Some b) there is (due_row [] none ∙ ap (λ c. cond c (given_up_row n b.key [] []) (only reply.Idle)) come) refl h.0
+        still reply.Idle (Some w) (Some b) there is (due_row [] none ∙ ap (λ c. cond c (given_up_row n b.key [] []) (only reply.Idle)) come) h.0
         (subst (λ (xs : List Envelope). AreBut name (Some (attempt_of g name reserved b xs)) x.dialing.attempts mid.dialing.attempts) (sym none) h.1.0) h.1.1
 
     -- an item is taken
@@ -326,79 +336,93 @@ module _ (configs : List Config) (log : List Entry) (moment seed name n : ℕ) (
       abbrev before : RunningAttempt
       before = attempt_of g name reserved b (z ∷ zs)
 
-      becoming : (due : Row) (next : Option Attempt) → due.takes ≡ name_of z ∷ [] → stepped_attempt rules moment seed reply.Ok (z.item ∷ []) b ≡ next → and_then (stepped_attempt rules moment seed reply.Ok (taken log (e due))) (attempts name) ≡ next
-      becoming due next takes becomes =
-          ap (λ i. and_then (stepped_attempt rules moment seed reply.Ok i) (attempts name)) (first_taken log (e due) q z zs first takes) ∙ (ap (and_then (stepped_attempt rules moment seed reply.Ok (z.item ∷ []))) is ∙ becomes)
+      becoming : (due : Row) (next : Option Attempt) → due.takes ≡ name_of z ∷ [] → took (z.item ∷ []) (Some b) ≡ next → took (taken log (e due)) (attempts name) ≡ next
+      becoming due next takes becomes = ap (λ i. took i (attempts name)) (first_taken log (e due) q z zs first takes) ∙ (ap (took (z.item ∷ [])) is ∙ becomes)
 
       -- what it did where it ended, before anything was handed on
       abbrev ended_row : Row
       ended_row = record { reply = reply.Ok; takes = name_of z ∷ []; puts = []; ends = left_ends zs }
 
       gives_up : HandedOn (length log) n (release reserved) (with_message_in m (message.Release reserved)) mid y ended_row r → attempt_row configs log name n moment seed ≡ given_up_row n b.key (name_of z ∷ []) zs
-          → stepped_attempt rules moment seed reply.Ok (z.item ∷ []) b ≡ None → AreBut name None x.dialing.attempts mid.dialing.attempts → Done
-      gives_up on row_is becomes but =
-          turned ended_row (release reserved) (with_message_in m (message.Release reserved)) [] None None refl on (row_is ∙ ap (λ key. given_up_row n key (name_of z ∷ []) zs) (sym peer)) refl (reserved, refl, refl) but
-          (becoming (given_up_row n (peer_of reserved) (name_of z ∷ []) zs) None refl becomes) (all_gone log q z zs first) refl
+          → AreBut name None x.dialing.attempts mid.dialing.attempts → Done
+      gives_up on row_is but =
+          turned ended_row (release reserved) (with_message_in m (message.Release reserved)) [] None None refl on (row_is ∙ ap (λ key. given_up_row n key (name_of z ∷ []) zs) (sym peer)) refl (reserved, refl, refl)
+          (back (given_up_row n (peer_of reserved) (name_of z ∷ []) zs) refl) but
+          refl (all_gone log q z zs first) refl
 
-      ends : attempt_row configs log name n moment seed ≡ given_up_row n b.key (name_of z ∷ []) zs → stepped_attempt rules moment seed reply.Ok (z.item ∷ []) b ≡ None
+      ends : attempt_row configs log name n moment seed ≡ given_up_row n b.key (name_of z ∷ []) zs
           → TurnsTo (turns.gives_up (Some reserved) input.Item left m) before → Done
-      ends row_is becomes h =
+      ends row_is h =
           gives_up
           (gave_back ended_row reserved (h.0 ∙ ap (λ c. record { row = record { reply = reply.Ok; takes = name_of z ∷ []; puts = []; ends = c }; released = Some (peer_of reserved); ready = None }) (ends_are zs)) h.1.1)
-          row_is becomes h.1.0
+          row_is h.1.0
 
       -- it ends with its reservation
-      is_ready : (c : Bool) → full ≡ c → attempt_row configs log name n moment seed ≡ ready_row n c b.key (link_of b.answer) (name_of z) zs → stepped_attempt rules moment seed reply.Ok (z.item ∷ []) b ≡ None
+      is_ready : (c : Bool) → full ≡ c → dialer_of log (link_of b.answer) ≡ Some n → attempt_row configs log name n moment seed ≡ ready_row n c b.key (link_of b.answer) (name_of z) zs
           → HandsOn (Some (link_of b.answer, reserved)) (length log) n None mid y ended_row r → AreBut name None x.dialing.attempts mid.dialing.attempts → mid.tracker.mailbox ≡ m → Done
-      is_ready true is_full row_is becomes hands but same =
-          gives_up (connection_refused (length log) n m mid y ended_row r same (link_of b.answer) reserved hands (refuses_is ∙ is_full)) row_is becomes but
-      is_ready false room row_is becomes hands but same =
+      is_ready true is_full dial row_is hands but same =
+          gives_up (connection_refused (length log) n m mid y ended_row r same (link_of b.answer) reserved hands (refuses_is ∙ is_full)) row_is but
+      is_ready false room dial row_is hands but same =
           turned ended_row (connection (link_of b.answer) reserved) m [] None None refl (connection_asked (length log) n m mid y ended_row r same (link_of b.answer) reserved hands (refuses_is ∙ room))
-          (row_is ∙ ap (λ key. ready_row n false key (link_of b.answer) (name_of z) zs) (sym peer)) refl tt but
-          (becoming (ready_row n false (peer_of reserved) (link_of b.answer) (name_of z) zs) None refl becomes) (all_gone log q z zs first) refl
+          (row_is ∙ ap (λ key. ready_row n false key (link_of b.answer) (name_of z) zs) (sym peer)) refl tt (subst (IsReservedOver log n (link_of b.answer)) (sym dialed) dial) but
+          refl (all_gone log q z zs first) refl
 
       -- it goes on
-      lasts : (next : Attempt) → next.key ≡ b.key → attempt_row configs log name n moment seed ≡ gone_on_row (name_of z) → stepped_attempt rules moment seed reply.Ok (z.item ∷ []) b ≡ Some next
+      lasts : (next : Attempt) → next.key ≡ b.key → attempt_row configs log name n moment seed ≡ gone_on_row (name_of z) → took (z.item ∷ []) (Some b) ≡ Some next
           → steps.tried ≡ record { row = gone_on_row (name_of z); released = None; ready = None }
           → AreBut name (Some (attempt_of g name reserved next zs)) x.dialing.attempts mid.dialing.attempts → mid.tracker.mailbox ≡ m → Done
       lasts next key row_is becomes tried_is but same =
-          turned (gone_on_row (name_of z)) nothing m zs (Some (attempt_of g name reserved next zs)) (Some next) refl (asked_nothing (gone_on_row (name_of z)) tried_is same) row_is refl tt but
+          turned (gone_on_row (name_of z)) nothing m zs (Some (attempt_of g name reserved next zs)) (Some next) refl (asked_nothing (gone_on_row (name_of z)) tried_is same) row_is refl tt tt but
           (becoming (gone_on_row (name_of z)) (Some next) refl becomes) (first_left log q z zs first) (reserved, dialed ∙ ap metadata.Dialer (sym key), refl)
 
-      -- it dials the address that was drawn, if there is one
-      by_drawn : (to : Option SocketAddr) → attempt_row configs log name n moment seed ≡ resolved_row (dialing to b) n b.key (name_of z) zs → stepped_attempt rules moment seed reply.Ok (z.item ∷ []) b ≡ dialing to b
-          → TurnsTo (turns.dials to left m) before → Done
-      by_drawn None row_is becomes h = ends row_is becomes h
-      by_drawn (Some to) row_is becomes h = lasts (record b { address = Some to }) refl row_is becomes h.0 h.1.0 h.1.1
+      module _ (addresses : List SocketAddr) (item_is : z.item ≡ item.Resolved addresses) where
+        -- the address that it has, or the one that was drawn
+        resolves : took (z.item ∷ []) (Some b) ≡ Some (record b { address = or_new (drawn_address private addresses seed) b.address })
+        resolves = ap (λ i. took (i ∷ []) (Some b)) item_is ∙ resolved_told rules n name moment seed addresses [] b
 
-      -- and keeps the one that it has
-      by_address : (at : Option SocketAddr) (addresses : List SocketAddr) → b.address ≡ at → attempt_row configs log name n moment seed ≡ resolved_row (resolved at private addresses seed b) n b.key (name_of z) zs
-          → stepped_attempt rules moment seed reply.Ok (z.item ∷ []) b ≡ resolved at private addresses seed b → TurnsTo (turns.resolves at addresses left m seed) before → Done
-      by_address (Some to) addresses at_is row_is becomes h = lasts b refl row_is becomes h.0 h.1.0 h.1.1
-      by_address None addresses at_is row_is becomes h =
-          by_drawn (drawn_address private addresses seed) row_is becomes (subst (λ c. TurnsTo (turns.dials (turns.chosen (turns.may_be_dialed c addresses) seed) left m) before) (private_is configs n) h)
+        -- it dials the address that was drawn, if there is one
+        by_drawn : b.address ≡ None → (to : Option SocketAddr) → drawn_address private addresses seed ≡ to → attempt_row configs log name n moment seed ≡ resolved_row (dialing to b) n b.key (name_of z) zs
+            → TurnsTo (turns.dials to left m) before → Done
+        by_drawn none None drawn row_is h = ends row_is h
+        by_drawn none (Some to) drawn row_is h =
+            lasts (record b { address = Some to }) refl row_is (resolves ∙ ap (λ w. Some (record b { address = w })) (ap (or_new (drawn_address private addresses seed)) none ∙ ap (λ d. or_new d None) drawn)) h.0 h.1.0 h.1.1
 
-      by_item : (i : Item) → attempt_row configs log name n moment seed ≡ took_row n full private seed b (name_of z) i zs
-          → stepped_attempt rules moment seed reply.Ok (z.item ∷ []) b ≡ stepped_attempt rules moment seed reply.Ok (i ∷ []) b → TurnsTo (turns.item_turn (told_item i) left m moment seed) before → Done
-      by_item (item.Resolved addresses) row_is becomes h = by_address b.address addresses refl row_is becomes h
-      by_item item.Linked row_is becomes h =
-          lasts (linked (moment + rules.handshake_timeout) b) refl row_is becomes h.0
-          (subst (λ t. AreBut name (Some (attempt_of g name reserved (linked (moment + t) b) zs)) x.dialing.attempts mid.dialing.attempts) (handshake_timeout_is configs n) h.1.0) h.1.1
-      by_item (item.Finished true) row_is becomes h =
-          is_ready full refl row_is becomes
+        -- and keeps the one that it has
+        by_address : (at : Option SocketAddr) → b.address ≡ at → attempt_row configs log name n moment seed ≡ resolved_row (resolved at private addresses seed b) n b.key (name_of z) zs
+            → TurnsTo (turns.resolves at addresses left m seed) before → Done
+        by_address (Some to) at_is row_is h =
+            lasts b refl row_is (resolves ∙ ap (λ w. Some (record b { address = w })) (ap (or_new (drawn_address private addresses seed)) at_is ∙ (keeps (drawn_address private addresses seed) ∙ sym at_is))) h.0 h.1.0 h.1.1
+          where
+            keeps : (d : Option SocketAddr) → or_new d (Some to) ≡ Some to
+            keeps None = refl
+            keeps (Some s) = refl
+        by_address None at_is row_is h =
+            by_drawn at_is (drawn_address private addresses seed) refl row_is (subst (λ c. TurnsTo (turns.dials (turns.chosen (turns.may_be_dialed c addresses) seed) left m) before) (private_is configs n) h)
+
+      by_item : (i : Item) → z.item ≡ i → attempt_row configs log name n moment seed ≡ attempt_took_row n full private seed b (name_of z) i zs → TurnsTo (turns.item_turn (told_item i) left m moment seed) before → Done
+      by_item (item.Resolved addresses) item_is row_is h = by_address addresses item_is b.address refl row_is h
+      by_item item.Linked item_is row_is h =
+          lasts (until rules.handshake_timeout) refl row_is (ap (λ i. took (i ∷ []) (Some b)) item_is ∙ linked_told rules n name moment seed [] b) h.0
+          (subst (λ t. AreBut name (Some (attempt_of g name reserved (until t) zs)) x.dialing.attempts mid.dialing.attempts) (handshake_timeout_is configs n) h.1.0) h.1.1
+        where
+          -- once it is linked, it waits no longer than for the keys to be exchanged
+          until : ℕ → Attempt
+          until t = record b { deadline = min b.deadline (moment + t) }
+      by_item (item.Finished true) item_is row_is h =
+          is_ready full refl (dials b z zs is first item_is) row_is
           (hands_of (record { row = ended_row; released = None; ready = Some (link_of b.answer, reserved) })
           (h.0 ∙ ap (λ c. record { row = record { reply = reply.Ok; takes = name_of z ∷ []; puts = []; ends = c }; released = None; ready = Some (link_of b.answer, reserved) }) (ends_are zs)))
           h.1.0 h.1.1
-      by_item (item.Finished false) row_is becomes h = ends row_is becomes h
-      by_item _ row_is becomes h = ends row_is becomes h
+      by_item (item.Finished false) item_is row_is h = ends row_is h
+      by_item _ item_is row_is h = ends row_is h
 
     by_line : (xs : List Envelope) → line log q ≡ xs → TurnsTo (turns.attempt_turn (attempt_of g name reserved b xs).actor m moment seed) (attempt_of g name reserved b xs) → Done
     by_line [] none h = by_deadline (nat_le b.deadline moment) refl none h
-    by_line (z ∷ zs) first h = by_item z zs first z.item (due_row (z ∷ zs) first) refl h
+    by_line (z ∷ zs) first h = by_item z zs first z.item refl (due_row (z ∷ zs) first) h
 
   by_attempt : (o : Option RunningAttempt) (b : Option Attempt) → table.at x.dialing.attempts name ≡ o → attempts name ≡ b → AttemptStands g name o b (line log q)
       → Tries o name moment seed x.dialing.attempts mid.dialing.attempts m mid.tracker.mailbox steps.tried → Done
-  by_attempt None None there is stands h = still reply.Gone None None there is (row_by None is) refl h.0 h.1.0 h.1.1
+  by_attempt None None there is stands h = still reply.Gone None None there is (row_by None is) h.0 h.1.0 h.1.1
   by_attempt (Some w) (Some b) there is stands h =
       let same : w ≡ attempt_of g name stands.0 b (line log q) = stands.2 in
       by_line b stands.0 stands.1 (there ∙ ap (λ z. Some z) same) is (line log q) refl (subst (λ (z : RunningAttempt). TurnsTo (turns.attempt_turn z.actor m moment seed) z) same h)
@@ -417,14 +441,14 @@ unfolding row
 step_row configs log moment seed name n = refl
 
 pub attempt_performs : (configs : List Config) (log : List Entry) (moment seed name n : ℕ) (x y : Node) (l ls : Links) (r : Row) → NodeStands configs log n x → LinksStand configs log l
-    → AttemptSteps (length log) n name moment seed x y l ls r → Performs configs log (asked moment seed (act.Attempt name n)) n y ls r
-attempt_performs configs log moment seed name n x y l ls r s t d =
+    → AttemptDialed configs log n name → AttemptSteps (length log) n name moment seed x y l ls r → Performs configs log (asked moment seed (act.Attempt name n)) n y ls r
+attempt_performs configs log moment seed name n x y l ls r s t dials d =
     let stood : DialerStands configs log n x.dialing = s.each place.dialer in
     let o = table.at x.dialing.attempts name in
     let b = attempts_of configs log n name in
     let lost : Option LinkEnd = cond (gave_up d.row.puts) (dialing_end log n name) None in
     let did : DidBeside configs log (asked moment seed (act.Attempt name n)) n x y named lost (attempt_row configs log name n moment seed) d.row =
-    by_attempt configs log moment seed name n x y d.row s d.steps lost o b refl refl (stood.attempts name) d.steps.tries
+    by_attempt configs log moment seed name n x y d.row s d.steps dials lost o b refl refl (stood.attempts name) d.steps.tries
     in
     performs_beside configs log (asked moment seed (act.Attempt name n)) n x y l ls named lost (attempt_row configs log name n moment seed) d.row r (not (gave_up d.row.puts)) (link_at o) side.Out s t refl refl
     (λ p out. not_among-links named p n out) did d.drops

@@ -14,9 +14,9 @@ use Rattle.p2p_log.proofs.Names.{AreApart-live_from}
 use Rattle.p2p_log_laws.proofs.EndHeard.{names_ready}
 use Rattle.p2p_log_rules.specs.declared.row.Half.{Half}
 use Rattle.p2p_log_rules.specs.declared.row.Row.{Row}
-use Rattle.p2p_log_rules.specs.Connections.{live_half, is_begun, is_running}
+use Rattle.p2p_log_rules.specs.Connections.{live_half, is_begun, has_run}
 use Rattle.p2p_log_rules.specs.Dropping.{is_dropped}
-use Rattle.p2p_log_rules.specs.Effect.{row, write_row, batch_size_at, beside_ping, batch, written_row, told_row, running_row, mailbox_size_at, other_side}
+use Rattle.p2p_log_rules.specs.Effect.{row, write_row, batch_size_at, beside_ping, batch, written_row, told_to_end_row, running_row, mailbox_size_at, other_side}
 use Rattle.p2p_log_rules.specs.Ending.{end_row}
 use Rattle.p2p_log_rules.specs.Facts.{is_up}
 use Rattle.p2p_log_rules.specs.Pings.{ping_is_due}
@@ -44,7 +44,7 @@ use Rattle.p2p_net.proofs.Writing.{batch_is, write_performs}
 -- ---- the rule's row
 
 -- where it is not told to end, or has no room for it, what it is told changes nothing
-told_row-off : (log : List Entry) (n conn : ℕ) (half : Half) (cs : List Envelope) (room : Bool) (r : Row) → (room && is_some (slice_get cs 0)) ≡ false → told_row log n conn half cs room r ≡ r
+told_row-off : (log : List Entry) (n conn : ℕ) (half : Half) (cs : List Envelope) (room : Bool) (r : Row) → (room && is_some (slice_get cs 0)) ≡ false → told_to_end_row log n conn half cs room r ≡ r
 told_row-off log n conn half [] room r h = refl
 told_row-off log n conn half (k ∷ cs) true r h = cc
 told_row-off log n conn half (k ∷ cs) false r h = refl
@@ -83,7 +83,7 @@ written_row-whole log n conn half false false (y ∷ xs) h = refl
 written_row-whole log n conn half false false [] h = refl
 
 module _ (configs : List Config) (log : List Entry) (at seed conn n : ℕ) (half : Half) (due : Bool) (x y : Node) (l links : Links) (r : Row) (s : NodeStands configs log n x) (t : LinksStand configs log l)
-    (up : is_up log n ≡ true) (has : live_half log n conn ≡ Some half) (begun : is_begun log n conn ≡ true) (running : is_running log n conn ≡ true)
+    (up : is_up log n ≡ true) (has : live_half log n conn ≡ Some half) (begun : is_begun log n conn ≡ true) (running : has_run log n conn ≡ true)
     (heard : Each (λ z. names_ready conn z.item ≡ false) (line log (queue.Router n))) (pings : ping_is_due configs log n conn at ≡ due) where
   abbrev Done : Type 0
   Done = Performs configs log (asked at seed (act.SendStep conn n)) n y links r
@@ -106,7 +106,7 @@ module _ (configs : List Config) (log : List Entry) (at seed conn n : ℕ) (half
   abbrev written : Row
   written = written_row log n conn half dropped due (batch log n conn most)
 
-  row_told : row configs log at seed (act.SendStep conn n) ≡ told_row log n conn half (line log (queue.Control n conn)) (nat_lt 0 most) written
+  row_told : row configs log at seed (act.SendStep conn n) ≡ told_to_end_row log n conn half (line log (queue.Control n conn)) (nat_lt 0 most) written
   unfolding row
   row_told = half_steps configs log conn n at half true true up has begun running ∙ ap (running_row configs log n conn half) pings
 
@@ -122,8 +122,8 @@ module _ (configs : List Config) (log : List Entry) (at seed conn n : ℕ) (half
       let gone = killed_left configs log n conn half to.k to.rest x d.told_less l s t to.is d.told d.tracker d.rest in
       sent_end_performs configs log at seed n conn half ended.Killed cause.ConnectionEnded (to.k ∷ []) x d.told_less y l l links r s has begun running heard
       (row_told
-      ∙ (ap (λ cs. told_row log n conn half cs (nat_lt 0 most) written) to.is
-      ∙ ap (λ b. told_row log n conn half (to.k ∷ to.rest) b written) to.has_room))
+      ∙ (ap (λ cs. told_to_end_row log n conn half cs (nat_lt 0 most) written) to.is
+      ∙ ap (λ b. told_to_end_row log n conn half (to.k ∷ to.rest) b written) to.has_room))
       gone
       (subst (λ (z : Row). Ends (length log) n conn half d.told_less y l links z r)
       (killed_row configs log n conn half to.k to.rest x d.told_less l s t to.is d.told d.tracker d.rest) d.ends)

@@ -18,7 +18,7 @@ use Rattle.p2p_log.proofs.Names.{AreApart-live_from}
 use Rattle.p2p_log.proofs.Queues.{same_queue-sym}
 use Rattle.p2p_log_rules.specs.declared.row.Half.{Half}
 use Rattle.p2p_log_rules.specs.declared.row.Row.{Row}
-use Rattle.p2p_log_rules.specs.Connections.{is_begun, is_running, is_end}
+use Rattle.p2p_log_rules.specs.Connections.{is_begun, has_run, is_end}
 use Rattle.p2p_log_rules.specs.Effect.{row, effect, write_row, batch_size_at, beside_ping, batch, ping_puts, mailbox_size_at}
 use Rattle.p2p_log_rules.specs.Pings.{ping_frequency_at, is_past, ping_is_due}
 use Rattle.p2p_log_rules.specs.Spawning.{steps_spawner}
@@ -38,10 +38,12 @@ use Rattle.p2p_net_connections.specs.declared.connections.Stage.TheVariants as s
 use Rattle.p2p_net_connections.proofs.Beginning.{connections_stepped, connections_pinged}
 use Rattle.p2p_net_connections.proofs.Pings.{pings_by}
 use Rattle.p2p_log_rules.proofs.Pinging.{PingsWhenDue}
+use Rattle.p2p_log_rules.proofs.Families.{kinds_of, are_apart}
+use Rattle.p2p_log_rules.proofs.Links.{exchange_kinds}
 use Rattle.p2p_net_links.specs.Links.{write_frames_row}
 use Rattle.p2p_net_links.specs.Stands.{LinksStand}
 use Rattle.p2p_net_links.specs.declared.links.Links.{Links}
-use Rattle.p2p_net_links.proofs.Changes.{opens_none, openings_unmoved, frames_put, links_written}
+use Rattle.p2p_net_links.proofs.Changes.{openings_unmoved, frames_put, links_written}
 use Rattle.p2p_net_tracker.specs.Stands.{is_told, TrackerStands}
 use Rattle.p2p_net_tracker.proofs.Changes.{tracker_frame}
 use Rattle.p2p_net.specs.Connecting.{WritesFrames}
@@ -165,7 +167,7 @@ due_is configs log n conn at pinged x s is =
     ∙ ap (λ (o : Option Config). is_past (elim o [ None ↦ 0 | Some c ↦ c.ping_frequency ]) at (Some pinged)) s.own.config
 
 module _ (configs : List Config) (log : List Entry) (at seed conn n : ℕ) (half : Half) (due : Bool) (x w y : Node) (l links : Links) (r : Row) (s : NodeStands configs log n x) (t : LinksStand configs log l)
-    (begun : is_begun log n conn ≡ true) (running : is_running log n conn ≡ true) (pings : ping_is_due configs log n conn at ≡ due)
+    (begun : is_begun log n conn ≡ true) (running : has_run log n conn ≡ true) (pings : ping_is_due configs log n conn at ≡ due)
     (frames : List ((ℕ × ℕ) × Item)) (calls : routing.Batches conn (beside_ping due x.config.send_batch_size) x.router w.router frames) (others : w ≡ record x { router = w.router })
     (row_is : row configs log at seed (act.SendStep conn n) ≡ write_row (queue.Link half.link half.writes) due (batch log n conn (beside_ping due (batch_size_at configs n))))
     (d : WritesFrames (length log) conn at half due frames w y l links r) where
@@ -242,7 +244,7 @@ module _ (configs : List Config) (log : List Entry) (at seed conn n : ℕ) (half
   connections_now = by due refl
     where
       spawns : SpawnsNone log e n
-      spawns c = live_connection-kept log e n c (ends_none-reply e n c lives) (connections_of-unmade log e n (ap (steps_spawner n) acts) c)
+      spawns c = live_connection-kept log e n c (ends_none-reply log e n c lives) (connections_of-unmade log e n (ap (steps_spawner n) acts) c)
 
       waits : HoldsLines (queue.Ready n) (log ++ e ∷ []) x.connections.answers
       waits c = connects.waits c ∙ sym (beside (queue.Ready n c) refl refl (ready_apart n half.link c half.writes))
@@ -250,14 +252,14 @@ module _ (configs : List Config) (log : List Entry) (at seed conn n : ℕ) (half
       receives : ReceivesNone configs log e n
       receives = step_receives configs log e n conn acts (λ c. beside (queue.Held n c) refl refl (held_apart n half.link c half.writes))
 
-      runs : (c : ℕ) → is_running (log ++ e ∷ []) n c ≡ is_running log n c
+      runs : (c : ℕ) → has_run (log ++ e ∷ []) n c ≡ has_run log n c
       runs c = still_runs log e n conn c acts running
 
       by : (b : Bool) → due ≡ b → ConnectionsStand configs (log ++ e ∷ []) n (pinged_with b conn at x.connections)
       by true is =
-          connections_pinged configs log e n conn at x.connections connects pinging spawns (λ c. step_begins n conn c e acts (replies ∙ ap (λ b. (write_frames_row half.link half.writes b frames).reply) is)) runs (pings ∙ is) moment receives waits
+          connections_pinged configs log e n conn at x.connections connects pinging spawns (λ c. step_begins log n conn c e acts (replies ∙ ap (λ b. (write_frames_row half.link half.writes b frames).reply) is)) runs (pings ∙ is) moment receives waits
       by false is =
-          connections_stepped configs log e n conn x.connections x.connections.answers connects pinging spawns begun (λ c other. other_begins n conn c e acts other) runs
+          connections_stepped configs log e n conn x.connections x.connections.answers connects pinging spawns begun (λ c other. other_begins log n conn c e acts other) runs
           (ap (ping_is_due configs log n conn) moment ∙ (pings ∙ is)) receives waits
 
   router_now : RouterStands configs (log ++ e ∷ []) n w.router
@@ -293,6 +295,6 @@ module _ (configs : List Config) (log : List Entry) (at seed conn n : ℕ) (half
         );
     linked = subst (LinksStand configs (log ++ e ∷ [])) (sym d.links_are)
         (links_written configs log e l half.writes half.link (length log) due frames t
-        (λ u j. line_written log e n conn half.link most half.writes due frames (queue.Link j u) (high_link n conn j u) (low_link n conn j u) took takes ends puts) (openings_unmoved log e (ap opens_none acts))
+        (λ u j. line_written log e n conn half.link most half.writes due frames (queue.Link j u) (high_link n conn j u) (low_link n conn j u) took takes ends puts) (openings_unmoved log e (ap (λ a. are_apart (kinds_of a) exchange_kinds) acts))
         (step_drops log e n conn acts lives));
   }

@@ -8,8 +8,8 @@ use Rattle.p2p_log.specs.declared.entry.Entry.{Entry}
 use Rattle.p2p_log.specs.declared.event.Act.{Act}
 use Rattle.p2p_log.specs.declared.event.Act.TheVariants as act
 use Rattle.p2p_log_rules.specs.declared.row.Opening.{Opening}
-use Rattle.p2p_log_rules.specs.Checking.{checking_node}
 use Rattle.p2p_log_rules.specs.Links.{openings_of}
+use Rattle.p2p_log_rules.specs.Valid.{checked_by}
 use Rattle.p2p_net.specs.declared.meeting.Ends.{Ends}
 
 pub data Part : Type 0 where
@@ -124,6 +124,11 @@ abbrev pub node_asked : Option Entry → ℕ
 node_asked None = 0
 node_asked (Some e) = or_first (asked_node e.event.act)
 
+-- the node at which the event of this number checks, or the first
+abbrev pub node_checking : Option Entry → ℕ
+node_checking None = 0
+node_checking (Some e) = or_first (checked_by e.event.act)
+
 -- the nodes between which an act makes a link, or the first at both ends
 abbrev pub linked_by : Act → Ends
 linked_by a = elim a [ act.Connect e from n to ↦ record { dials = n; listens = to } | _ ↦ record { dials = 0; listens = 0 } ]
@@ -139,7 +144,7 @@ node_of log (act.Register c n rate) = n
 node_of log (act.Start n) = n
 node_of log (act.Send bytes c n priority to) = n
 node_of log (act.Check c n to) = n
-node_of log (act.SendChecked bytes check priority) = checking_node log check
+node_of log (act.SendChecked bytes check priority) = node_checking (slice_get log check)
 node_of log (act.Router n) = n
 node_of log (act.SendStep conn n) = n
 node_of log (act.RecvStep conn n) = n

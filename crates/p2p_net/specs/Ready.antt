@@ -47,13 +47,13 @@ abbrev pub names_dialer : ℕ → Option Entry → Bool
 names_dialer n None = false
 names_dialer n (Some e) = is_dial_of n e.event.act
 
-abbrev pub is_listened : Act → Bool
-is_listened a = elim a [ act.Listener m ↦ true | _ ↦ false ]
+abbrev pub is_listening_of : ℕ → Act → Bool
+is_listening_of n a = elim a [ act.Listener m ↦ m == n | _ ↦ false ]
 
--- whether this entry is of a step of a listener
-abbrev pub names_listener : Option Entry → Bool
-names_listener None = false
-names_listener (Some e) = is_listened e.event.act
+-- whether this entry is of a step of the node's listener
+abbrev pub names_listener : ℕ → Option Entry → Bool
+names_listener n None = false
+names_listener n (Some e) = is_listening_of n e.event.act
 
 abbrev pub is_link : Act → Bool
 is_link a = elim a [ act.Connect e from n to ↦ true | _ ↦ false ]
@@ -87,7 +87,7 @@ may_ask log x (act.SendStep conn n) = names_spawner n (slice_get log conn)
 may_ask log x (act.RecvStep conn n) = names_spawner n (slice_get log conn)
 may_ask log x (act.Answer e) = asks_set (slice_get log e)
 may_ask log x (act.Next e) = subscribes (slice_get log e)
-may_ask log x (act.Handshake e n) = names_listener (slice_get log e)
+may_ask log x (act.Handshake e n) = names_listener n (slice_get log e)
 may_ask log x (act.Attempt e n) = names_dialer n (slice_get log e)
 may_ask log x (act.Resolve addresses e n) = names_dialer n (slice_get log e)
 may_ask log x (act.Connect e from n to) = names_dialer n (slice_get log e)

@@ -6,7 +6,6 @@ use Rattle.p2p_log.specs.declared.event.Event.{Event}
 use Rattle.p2p_log_rules.specs.Effect.{effect}
 use Rattle.p2p_log_rules.specs.Facts.{events_of, latest_moment}
 use Rattle.p2p_log_rules.specs.Lawful.{IsLawful}
-use Rattle.p2p_log_rules.specs.Valid.{last_moment}
 use Rattle.p2p_net_links.specs.declared.links.Links.{Links}
 use Rattle.p2p_net.specs.declared.node.Node.{Node}
 use Rattle.p2p_net.specs.Stands.{WorldStands}
@@ -27,8 +26,7 @@ Stands w = w.failed ≡ false → WorldStands w.configs w.log w.nodes w.links
 pub record KeptStands (configs : List Config) (log : List Entry) (nodes : List Node) (links : Links) (last : ℕ) : Type 0 where
   pub world : WorldStands configs log nodes links
   pub lawful : IsLawful configs (events_of log) log
-  pub last_is : last ≡ last_moment (events_of log)
-  pub timely : latest_moment (events_of log) ≤ last
+  pub last_is : last ≡ latest_moment (events_of log)
 
 -- what was recorded of an event after this log
 pub record IsRecorded (configs : List Config) (log : List Entry) (v : Event) (later : List Entry) (nodes : List Node) (links : Links) : Type 0 where

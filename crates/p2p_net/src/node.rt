@@ -2,7 +2,6 @@
 ghost use Rattle.std.specs.Prelude.{◌≡◌, ◌*◌, ◌<◌, ◌^◌, ℕ, [], IfOk, OnOk, IfErr, true, false, None, slice_get};
 ghost use Rattle.std.specs.Ordering.{nat_cmp};
 ghost use Rattle.std.specs.BTreeMap as tree;
-ghost use Rattle.p2p_log_rules.specs.Checking.{checking_node};
 ghost use Rattle.p2p_log_rules.specs.Effect.{entry_of as entry_of_row};
 ghost use Rattle.p2p_log_rules.specs.Valid.{fits};
 ghost use Rattle.p2p_net_channels.specs.Channels.{no_channels};
@@ -12,7 +11,7 @@ ghost use Rattle.p2p_net_listener.specs.Listening.{IsNew as IsNewListening};
 ghost use Rattle.p2p_net_router.specs.Stands.{StandsFor};
 ghost use Rattle.p2p_net_connections.specs.Spawner.{no_spawning};
 ghost use Rattle.p2p_net_tracker.specs.Begins.{IsNew};
-ghost use Rattle.p2p_net.specs.Places.{asked_node as asked_node_of, node_asked as node_asked_by, nodes_linked as nodes_linked_by, node_of as node_of_act, other_of as other_of_act};
+ghost use Rattle.p2p_net.specs.Places.{asked_node as asked_node_of, node_asked as node_asked_by, node_checking as node_checking_by, nodes_linked as nodes_linked_by, node_of as node_of_act, other_of as other_of_act};
 ghost use Rattle.p2p_net.specs.Ready.{is_started as started_test, IsReady};
 ghost use Rattle.p2p_net.specs.Acts.{NodeDoes};
 ghost use Rattle.p2p_net.specs.Applying.{NodeRecords, NodeApplies, NodeStandsWith, NodeRefused};
@@ -151,7 +150,7 @@ fn nodes_linked(log: &[Entry], link: u64) -> Ends
 
 /// The node at which the event of this number checks, or the first.
 fn node_checking(log: &[Entry], check: u64) -> u64
-    ensures { result ≡ checking_node log.now check }
+    ensures { result ≡ node_checking_by (slice_get log.now check) }
 {
     match log.get(check as usize) {
         Some(entry) => match &entry.event.act {

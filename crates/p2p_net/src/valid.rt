@@ -80,12 +80,15 @@ fn is_dialed(log: &[Entry], attempt: u64, number: u64) -> bool
     }
 }
 
-/// Whether the entry of this number is of a step of a listener.
-fn is_listened(log: &[Entry], handshake: u64) -> bool
-    ensures { result ≡ names_listener (slice_get log.now handshake) }
+/// Whether the entry of this number is of a step of a node's listener.
+fn is_listened(log: &[Entry], handshake: u64, number: u64) -> bool
+    ensures { result ≡ names_listener number (slice_get log.now handshake) }
 {
     match log.get(handshake as usize) {
-        Some(entry) => matches!(&entry.event.act, Act::Listener { .. }),
+        Some(entry) => match &entry.event.act {
+            Act::Listener { node } => *node == number,
+            _ => false,
+        },
         None => false,
     }
 }
@@ -112,7 +115,7 @@ fn may_ask(log: &[Entry], node: &Node, act: &Act) -> bool
         Act::RecvStep { conn, node } => is_spawned(log, *conn, *node),
         Act::Answer { question } => asks_set(log, *question),
         Act::Next { question } => subscribes(log, *question),
-        Act::Handshake { handshake, .. } => is_listened(log, *handshake),
+        Act::Handshake { handshake, node } => is_listened(log, *handshake, *node),
         Act::Attempt { attempt, node } => is_dialed(log, *attempt, *node),
         Act::Resolve { attempt, node, .. } => is_dialed(log, *attempt, *node),
         Act::Connect { attempt, node, .. } => is_dialed(log, *attempt, *node),

@@ -15,7 +15,7 @@ use Rattle.p2p_net_queues.proofs.Holding.{holds_frame}
 use Rattle.p2p_net_queues.specs.Tables.{at}
 use Rattle.p2p_net_channels.specs.Stands.{AdmitsNone, SendsNone, ClosesNone, ChannelsStand, LeavesChannels}
 use Rattle.p2p_net_channels.specs.declared.channels.Channels.{Channels}
-use Rattle.p2p_net_channels.proofs.Checks.{checks_stay}
+use Rattle.p2p_net_channels.proofs.Checks.{checks_kept}
 use Rattle.p2p_net_channels.proofs.Quotas.{same_rates, quota_stays}
 use Rattle.p2p_net_channels.proofs.Readers.{closed_stay}
 use Rattle.p2p_net_channels.proofs.Sending.{senders_stay}
@@ -26,7 +26,7 @@ channels-kept configs log e n none = channels-append configs log e n ∙ (ap (λ
 -- no channel more, and these messages wait
 pub channels_moved :
     (configs : List Config) (log : List Entry) (e : Entry) (n : ℕ) (ch : Channels) (w : List (ℕ × List Envelope)) → ChannelsStand configs log n ch → registers_at configs n e.event.act ≡ []
-    → AdmitsNone configs log e n → SendsNone log e n → ClosesNone e n → HoldsLines (queue.Channel n) (log ++ e ∷ []) w → ChannelsStand configs (log ++ e ∷ []) n (record ch { waiting = w })
+    → AdmitsNone configs log e n → SendsNone log e n → ClosesNone log e n → HoldsLines (queue.Channel n) (log ++ e ∷ []) w → ChannelsStand configs (log ++ e ∷ []) n (record ch { waiting = w })
 channels_moved configs log e n ch w s none admits sends closes waits = record {
   capacities = λ c. s.capacities c ∙ ap (λ l. capacity_in l c) (sym (channels-kept configs log e n none));
   total = s.total ∙ ap sum_capacities (sym (channels-kept configs log e n none));
@@ -34,7 +34,7 @@ channels_moved configs log e n ch w s none admits sends closes waits = record {
   waits = waits;
   quotas = λ c. same_rates configs log e n c (at ch.quotas c) none (quota_stays configs log e n c (rate_in (rates log n) c) (at ch.quotas c) (s.quotas c) (λ conn. admits conn c));
   senders = senders_stay configs log e n ch.senders s.senders none sends;
-  checks = checks_stay log e n ch.checks s.checks sends;
+  checks = checks_kept log e n ch.checks s.checks sends.checks;
   closed = closed_stay log e n ch s.closed closes;
 }
 

@@ -19,7 +19,7 @@ use Rattle.p2p_net_queues.proofs.Meters.{admitted-append, admitted-kept, numbers
 use Rattle.p2p_net_channels.specs.Channels.{may_admit, metered}
 use Rattle.p2p_net_channels.specs.Stands.{QuotaStands, SendsNone, ClosesNone, ChannelsStand}
 use Rattle.p2p_net_channels.specs.declared.channels.Channels.{Channels}
-use Rattle.p2p_net_channels.proofs.Checks.{checks_stay}
+use Rattle.p2p_net_channels.proofs.Checks.{checks_kept}
 use Rattle.p2p_net_channels.proofs.Changes.{channels-kept}
 use Rattle.p2p_net_channels.proofs.Quotas.{quota_stays, same_rates}
 use Rattle.p2p_net_channels.proofs.Readers.{closed_stay}
@@ -67,7 +67,7 @@ pub channels_metered :
     (configs : List Config) (log : List Entry) (e : Entry) (n c conn now : ℕ) (ch : Channels) (w : List (ℕ × List Envelope)) → ChannelsStand configs log n ch → registers_at configs n e.event.act ≡ []
     → latest_moment (events_of log) ≤ now → e.event.at ≡ now
     → ((d q : ℕ) → admitted_by (limit_at configs n) n d (messages q) log e ≡ cond ((q == c) && ((d == conn) && may_admit ch c conn now)) (now ∷ []) [])
-    → SendsNone log e n → ClosesNone e n → HoldsLines (queue.Channel n) (log ++ e ∷ []) w → ChannelsStand configs (log ++ e ∷ []) n (record (metered c conn now ch) { waiting = w })
+    → SendsNone log e n → ClosesNone log e n → HoldsLines (queue.Channel n) (log ++ e ∷ []) w → ChannelsStand configs (log ++ e ∷ []) n (record (metered c conn now ch) { waiting = w })
 channels_metered configs log e n c conn now ch w s none late is_then adds sends closes waits = record {
   capacities = λ q. s.capacities q ∙ ap (λ l. capacity_in l q) (sym (channels-kept configs log e n none));
   total = s.total ∙ ap sum_capacities (sym (channels-kept configs log e n none));
@@ -75,6 +75,6 @@ channels_metered configs log e n c conn now ch w s none late is_then adds sends 
   waits = waits;
   quotas = λ q. same_rates configs log e n q (at (checked_at nat_cmp ch.quotas c conn now) q) none (quotas_checked configs log e n c conn now late is_then ch s.quotas adds q);
   senders = senders_stay configs log e n ch.senders s.senders none sends;
-  checks = checks_stay log e n ch.checks s.checks sends;
+  checks = checks_kept log e n ch.checks s.checks sends.checks;
   closed = closed_stay log e n ch s.closed closes;
 }

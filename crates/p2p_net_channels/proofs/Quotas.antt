@@ -5,11 +5,9 @@ use Rattle.std.specs.Ordering.{nat_cmp}
 use Rattle.p2p_runtime.specs.QuotaKeys.{KeptByKey}
 use Rattle.p2p_runtime.specs.QuotaLaw.{admits}
 use Rattle.p2p_log.specs.declared.config.Config.{Config}
-use Rattle.p2p_log.specs.declared.event.Act.{Act}
-use Rattle.p2p_log.specs.declared.event.Act.TheVariants as act
 use Rattle.p2p_log.specs.declared.event.Rate.{Rate}
 use Rattle.p2p_log.specs.declared.entry.Entry.{Entry}
-use Rattle.p2p_log_rules.specs.Facts.{events_of, latest_moment, capacity_for, registers_at, channels, capacity_in, rates_by, rates, rate_in, history_from, state_from}
+use Rattle.p2p_log_rules.specs.Facts.{events_of, latest_moment, capacity_for, with_capacity, registers_at, channels, capacity_in, rates_by, rates, rate_in, history_from, state_from}
 use Rattle.p2p_log_rules.specs.Listening.{quota_of}
 use Rattle.p2p_log_rules.specs.Metering.{messages, limit_at, admitted_by, admitted, quota_or_none, may_pass}
 use Rattle.p2p_log_rules.specs.Told.{told}
@@ -24,24 +22,20 @@ use Rattle.p2p_net_channels.specs.declared.channels.Channels.{Channels}
 -- ---- the rates of channels
 
 -- an act that registers no channel has no rate
-no_rate : (configs : List Config) (n : ℕ) (a : Act) → registers_at configs n a ≡ [] → rates_by n a ≡ []
-no_rate configs n (act.Register c m rate) h = by (m == n) h
-  where
-    by : (b : Bool) → cond {A = List (ℕ × ℕ)} b ((c, capacity_for (slice_get configs n) rate) ∷ []) [] ≡ [] → cond {A = List (ℕ × Rate)} b ((c, rate) ∷ []) [] ≡ []
-    by true none = cc
-    by false none = refl
-no_rate configs n _ h = refl
+no_rate : (configs : List Config) (n : ℕ) (rs : List (ℕ × Rate)) → map (with_capacity configs n) rs ≡ [] → rs ≡ []
+no_rate configs n [] h = refl
+no_rate configs n (r ∷ rs) h = cc
 
 pub rates-kept : (configs : List Config) (log : List Entry) (e : Entry) (n : ℕ) → registers_at configs n e.event.act ≡ [] → rates (log ++ e ∷ []) n ≡ rates log n
-rates-kept configs log e n none = rates-append log e n ∙ (ap (λ l. rates log n ++ l) (no_rate configs n e.event.act none) ∙ append-nil (rates log n))
+rates-kept configs log e n none = rates-append log e n ∙ (ap (λ l. rates log n ++ l) (no_rate configs n (rates_by n e.event.act) none) ∙ append-nil (rates log n))
 
 -- each channel that has a rate has a capacity
-known_in : (configs : List Config) (n c : ℕ) (rs : List (ℕ × Rate)) → is_some (capacity_in (map (λ r. (r.0, capacity_for (slice_get configs n) r.1)) rs) c) ≡ is_some (rate_in rs c)
+known_in : (configs : List Config) (n c : ℕ) (rs : List (ℕ × Rate)) → is_some (capacity_in (map (with_capacity configs n) rs) c) ≡ is_some (rate_in rs c)
 known_in configs n c [] = refl
 known_in configs n c (r ∷ rs) = by (c == r.0) (known_in configs n c rs)
   where
-    by : (b : Bool) → is_some (capacity_in (map (λ d. (d.0, capacity_for (slice_get configs n) d.1)) rs) c) ≡ is_some (rate_in rs c)
-        → is_some (cond b (Some (capacity_for (slice_get configs n) r.1)) (capacity_in (map (λ d. (d.0, capacity_for (slice_get configs n) d.1)) rs) c)) ≡ is_some (cond b (Some r.1) (rate_in rs c))
+    by : (b : Bool) → is_some (capacity_in (map (with_capacity configs n) rs) c) ≡ is_some (rate_in rs c)
+        → is_some (cond b (Some (capacity_for (slice_get configs n) r.1)) (capacity_in (map (with_capacity configs n) rs) c)) ≡ is_some (cond b (Some r.1) (rate_in rs c))
     by true h = refl
     by false h = h
 

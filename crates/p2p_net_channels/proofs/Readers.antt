@@ -9,9 +9,10 @@ use Rattle.p2p_log.specs.declared.entry.Entry.{Entry}
 use Rattle.p2p_log.specs.declared.entry.Reply.TheVariants as reply
 use Rattle.p2p_log.specs.declared.event.Act.TheVariants as act
 use Rattle.p2p_log_rules.specs.Closing as closing
-use Rattle.p2p_log_rules.specs.Closing.{closed_by, closes, reader_of}
+use Rattle.p2p_log_rules.specs.Closing.{reader_of}
+use Rattle.p2p_log_rules.specs.Connections.{is_done}
 use Rattle.p2p_log_rules.specs.Facts.{channels, capacity_in}
-use Rattle.p2p_log_rules.proofs.Closing.{is_closed-append, is_closed-kept, is_closed-none}
+use Rattle.p2p_log_rules.proofs.Closing.{is_closed-append, is_closed-none}
 use Rattle.p2p_net_queues.specs.Tables.{at}
 use Rattle.p2p_net_queues.proofs.Tables.{at-inserted}
 use Rattle.p2p_net_channels.specs.Channels.{no_channels, is_closed, has_reader}
@@ -23,8 +24,8 @@ pub closed_new : (n c : ℕ) → is_closed no_channels c ≡ closing.is_closed [
 closed_new n c = sym (is_closed-none n c)
 
 -- an entry that drops none
-pub closed_stay : (log : List Entry) (e : Entry) (n : ℕ) (ch : Channels) → ((c : ℕ) → is_closed ch c ≡ closing.is_closed log n c) → ClosesNone e n → (c : ℕ) → is_closed ch c ≡ closing.is_closed (log ++ e ∷ []) n c
-closed_stay log e n ch stands none c = stands c ∙ sym (is_closed-kept log e n c (none c))
+pub closed_stay : (log : List Entry) (e : Entry) (n : ℕ) (ch : Channels) → ((c : ℕ) → is_closed ch c ≡ closing.is_closed log n c) → ClosesNone log e n → (c : ℕ) → is_closed ch c ≡ closing.is_closed (log ++ e ∷ []) n c
+closed_stay log e n ch stands none c = stands c ∙ sym (none c)
 
 -- one that drops that of a channel
 pub closed_more : (log : List Entry) (e : Entry) (n c : ℕ) (ch : Channels) → ((d : ℕ) → is_closed ch d ≡ closing.is_closed log n d) → e.event.act ≡ act.Close c n → e.reply ≡ reply.Ok
@@ -33,7 +34,7 @@ closed_more log e n c ch stands acts done d =
     ap (λ (o : Option (Unit {0})). is_some o) (at-inserted c d tt ch.closed)
     ∙ (either (d == c) (at ch.closed d)
     ∙ (ap (λ b. b || (d == c)) (stands d)
-    ∙ (ap (λ b. closing.is_closed log n d || b) (sym here) ∙ sym (is_closed-append log e n d))))
+    ∙ (ap (λ b. closing.is_closed log n d || b) (sym here) ∙ sym (is_closed-append log e n d n c acts))))
   where
     either : (b : Bool) (o : Option (Unit {0})) → is_some (cond b (Some tt) o) ≡ (is_some o || b)
     either true None = refl
@@ -44,8 +45,8 @@ closed_more log e n c ch stands acts done d =
     same : (n c d : ℕ) → (((n == n) && (c == d)) && true) ≡ (d == c)
     same n c d = grind (arith, nat_tests)
 
-    here : closes n d e ≡ (d == c)
-    here = ap (λ a. closed_by n d a e.reply) acts ∙ (ap (closed_by n d (act.Close c n)) done ∙ same n c d)
+    here : (((n == n) && (c == d)) && is_done e.reply) ≡ (d == c)
+    here = ap (λ r. ((n == n) && (c == d)) && is_done r) done ∙ same n c d
 
 -- whether a channel has a reader, by the log
 pub reader_is : (configs : List Config) (log : List Entry) (n c : ℕ) (ch : Channels) → ChannelsStand configs log n ch → has_reader ch c ≡ closing.has_reader configs log n c

@@ -1,6 +1,6 @@
 -- The channels of a node with one channel more.
 use Rattle.std.proofs.Common.{◌≡◌, ℕ, ◌+◌, ◌^◌, ◌<◌, Bool, true, false, cond, List, [], ◌∷◌, ◌++◌, refl, ap, sym, subst, ◌∙◌, arith, eqb-true, Option, Some, None}
-use Rattle.std.specs.Prelude.{slice_get, ◌==◌, is_some}
+use Rattle.std.specs.Prelude.{map, slice_get, ◌==◌, is_some}
 use Rattle.std.specs.Map.{lookup}
 use Rattle.std.specs.BTreeMap.{is_at, insert_entry}
 use Rattle.std.specs.Ordering.{nat_cmp}
@@ -11,14 +11,15 @@ use Rattle.p2p_log.specs.declared.event.Rate.{Rate}
 use Rattle.p2p_log.specs.declared.event.Act.TheVariants as act
 use Rattle.p2p_log.specs.declared.entry.Entry.{Entry}
 use Rattle.p2p_log.specs.Lines.{line}
-use Rattle.p2p_log_rules.specs.Facts.{registers_at, capacity_for, channels, capacity_in, rates_by, rates, rate_in, sum_capacities}
+use Rattle.p2p_log_rules.specs.Facts.{registers_at, capacity_for, with_capacity, channels, capacity_in, rates_by, rates, rate_in, sum_capacities}
 use Rattle.p2p_log_rules.specs.Admitting.{rate_at, sent_moments}
-use Rattle.p2p_log_rules.specs.Closing.{closed_by}
 use Rattle.p2p_log_rules.specs.Listening.{quota_of}
 use Rattle.p2p_log_rules.specs.Tracking.{key_cmp}
 use Rattle.p2p_log_rules.specs.Metering.{messages, admitted}
 use Rattle.p2p_log_rules.specs.Effect.{mailbox_size_at}
 use Rattle.p2p_log_rules.proofs.Channels.{rates-append}
+use Rattle.p2p_log_rules.proofs.Closing.{reader_kinds, is_closed-apart}
+use Rattle.p2p_log_rules.proofs.Families.{kinds_of, are_apart}
 use Rattle.p2p_runtime.specs.QuotaStep.{IsQuota}
 use Rattle.p2p_net_queues.specs.Meters.{fresh}
 use Rattle.p2p_net_queues.specs.Tables.{at}
@@ -27,11 +28,11 @@ use Rattle.p2p_net_queues.proofs.Tables.{lookup-insert_entry, at-inserted}
 use Rattle.p2p_net_channels.specs.Channels.{capacity_at, registered_with}
 use Rattle.p2p_net_channels.specs.Stands.{QuotaStands, SenderStands, AdmitsNone, SendsNone, ChannelsStand}
 use Rattle.p2p_net_channels.specs.declared.channels.Channels.{Channels}
-use Rattle.p2p_net_channels.proofs.Checks.{checks_stay}
+use Rattle.p2p_net_channels.proofs.Checks.{checks_kept}
 use Rattle.p2p_net_channels.proofs.Changes.{channels-append}
 use Rattle.p2p_net_channels.proofs.Quotas.{same_known, admitted_none, quota_stays}
 use Rattle.p2p_net_channels.proofs.Readers.{closed_stay}
-use Rattle.p2p_net_channels.proofs.Sending.{sent_moments-kept, sent_none, sender_stays}
+use Rattle.p2p_net_channels.proofs.Sending.{sent_none, sender_stays}
 
 lookup-last :
     {V : Type 0} (xs : List (ℕ × V)) (c : ℕ) (k : V) (d : ℕ)
@@ -91,15 +92,15 @@ module _ (configs : List Config) (log : List Entry) (e : Entry) (n c : ℕ) (rat
       → SenderStands (log ++ e ∷ []) n d (elim r [ None ↦ cond b (Some rate) None | Some v ↦ Some v ]) (cond b (Some (fresh (quota_of rate))) (at ch.senders d))
   new_sender stands absent is_quota sends d true here None is =
       meters_new key_cmp (log ++ e ∷ []) (quota_of rate) (sent_moments (log ++ e ∷ []) n d) is_quota
-      (λ k. sent_moments-kept log e n d sends k ∙ sent_none log n d (rate_at log n d) (at ch.senders d) (stands d) is k)
+      (λ k. sends.moments d k ∙ sent_none log n d (rate_at log n d) (at ch.senders d) (stands d) is k)
   new_sender stands absent is_quota sends d true here (Some v) is =
       let same : d ≡ c = eqb-true d c here in
       let missing : rate_at log n d ≡ None = ap (rate_in (rates log n)) same ∙ absent in
       absurd (cc)
   new_sender stands absent is_quota sends d false there None is =
-      sender_stays log e n d None (at ch.senders d) (subst (λ o. SenderStands log n d o (at ch.senders d)) is (stands d)) (sent_moments-kept log e n d sends)
+      sender_stays log e n d None (at ch.senders d) (subst (λ o. SenderStands log n d o (at ch.senders d)) is (stands d)) (sends.moments d)
   new_sender stands absent is_quota sends d false there (Some v) is =
-      sender_stays log e n d (Some v) (at ch.senders d) (subst (λ o. SenderStands log n d o (at ch.senders d)) is (stands d)) (sent_moments-kept log e n d sends)
+      sender_stays log e n d (Some v) (at ch.senders d) (subst (λ o. SenderStands log n d o (at ch.senders d)) is (stands d)) (sends.moments d)
 
 -- an entry that registers a channel
 pub channels_registered :
@@ -110,7 +111,7 @@ pub channels_registered :
 channels_registered configs log e n c k rate ch s is amount absent room lines is_quota admits sends =
     let here : registers_at configs n e.event.act ≡ (c, k) ∷ [] =
     ap (registers_at configs n) is
-    ∙ (ap (λ b. cond b ((c, capacity_for (slice_get configs n) rate) ∷ []) []) (same_number n) ∙ ap (λ j. (c, j) ∷ []) (sym amount))
+    ∙ (ap (λ b. map (with_capacity configs n) (cond b ((c, rate) ∷ []) [])) (same_number n) ∙ ap (λ j. (c, j) ∷ []) (sym amount))
     in
     let more : channels configs (log ++ e ∷ []) n ≡ channels configs log n ++ (c, k) ∷ [] = channels-append configs log e n ∙ ap (λ l. channels configs log n ++ l) here in
     record {
@@ -131,8 +132,8 @@ channels_registered configs log e n c k rate ch s is amount absent room lines is
           subst (λ r. SenderStands (log ++ e ∷ []) n d r (at (insert_entry nat_cmp ch.senders c (fresh (quota_of rate))) d)) (sym (known d))
           (subst (λ o. SenderStands (log ++ e ∷ []) n d (elim (rate_at log n d) [ None ↦ cond (d == c) (Some rate) None | Some v ↦ Some v ]) o) (sym (at-inserted c d (fresh (quota_of rate)) ch.senders))
           (new_sender configs log e n c rate ch s.senders (no_rate_yet (s.capacities c)) is_quota sends d (d == c) refl (rate_at log n d) refl));
-      checks = checks_stay log e n ch.checks s.checks sends;
-      closed = closed_stay log e n ch s.closed (λ d. ap (λ a. closed_by n d a e.reply) is);
+      checks = checks_kept log e n ch.checks s.checks sends.checks;
+      closed = closed_stay log e n ch s.closed (λ d. is_closed-apart log e n d (ap (λ a. are_apart (kinds_of a) reader_kinds) is));
     }
   where
     known : (d : ℕ) → rate_at (log ++ e ∷ []) n d ≡ elim (rate_at log n d) [ None ↦ cond (d == c) (Some rate) None | Some v ↦ Some v ]

@@ -1,7 +1,8 @@
 -- What the quota of a channel admits of what its node sends, when it admits the rest, and the channels after it was asked.
-use Rattle.std.proofs.Common.{◌≡◌, ℕ, ◌≤◌, max, Bool, true, false, cond, List, [], ◌∷◌, ◌++◌, Result, Ok, Err, Option, Some, None, refl, ap, sym, subst, ◌∙◌, arith, eqb-true}
+use Rattle.std.proofs.Common.{◌≡◌, ℕ, ◌≤◌, max, Bool, true, false, cond, List, [], ◌∷◌, ◌++◌, Result, Ok, Err, Option, Some, None, refl, ap, sym, subst, ◌∙◌, arith, append_assoc, append-nil, eqb-true, eq-eqb}
 use Rattle.std.specs.Prelude.{◌==◌, is_ok}
 use Rattle.std.specs.Cmp.{IsTotalOrder, nat_cmp_total}
+use Rattle.std.specs.BTreeMap.{is_at}
 use Rattle.std.specs.Option.{option_map}
 use Rattle.std.proofs.lemmas.Bool.Decides.{nat_tests}
 use Rattle.p2p_base.specs.declared.key.Key.{Key}
@@ -10,12 +11,12 @@ use Rattle.p2p_log.specs.declared.event.Rate.{Rate}
 use Rattle.p2p_log.specs.declared.event.Recipients.{Recipients}
 use Rattle.p2p_log.specs.declared.queue.Queue.TheVariants as queue
 use Rattle.p2p_log.specs.declared.entry.Entry.{Entry}
-use Rattle.p2p_log.specs.Copies.{keys_of_recipients}
 use Rattle.p2p_log.specs.Lines.{line}
-use Rattle.p2p_log_rules.specs.Facts.{events_of, latest_moment, registers_at, capacity_in, sum_capacities, peers_told}
-use Rattle.p2p_log_rules.specs.Admitting.{admitted_keys, latest_retry, moments_after, keys_by, retry_by, moments_by, rate_at, asked_for, asked_moments, sent_moments, offered, keys_admitted, retry_moment}
+use Rattle.p2p_log_rules.specs.Facts.{events_of, latest_moment, registers_at, capacity_in, sum_capacities}
+use Rattle.p2p_log_rules.specs.Admitting.{admitted_keys, latest_retry, keys_by, retry_by, rate_at, sent_moments, offered, keys_admitted, retry_moment}
 use Rattle.p2p_log_rules.specs.Checking.{checked_at}
 use Rattle.p2p_log_rules.specs.Listening.{quota_of}
+use Rattle.p2p_log_rules.specs.Quotas.{at_places}
 use Rattle.p2p_log_rules.specs.Tracking.{key_cmp}
 use Rattle.p2p_log_rules.specs.declared.row.Checked.{Checked}
 use Rattle.p2p_runtime.specs.QuotaLaw.{Rate as Quota, retry}
@@ -33,7 +34,7 @@ use Rattle.p2p_net_channels.specs.declared.channels.Channels.{Channels}
 use Rattle.p2p_net_channels.proofs.Changes.{channels-kept}
 use Rattle.p2p_net_channels.proofs.Quotas.{quota_stays, same_rates}
 use Rattle.p2p_net_channels.proofs.Readers.{closed_stay}
-use Rattle.p2p_net_channels.proofs.Sending.{sent_moments-append, sender_stays, same_sender_rates}
+use Rattle.p2p_net_channels.proofs.Sending.{sender_stays, same_sender_rates}
 
 -- keys are in order
 key_order : IsTotalOrder key_cmp
@@ -84,28 +85,34 @@ module _ (now : ℕ) (quota : Quota) where
           ap (λ t. max t (keys_retry (checked key_cmp kept k now) now ks)) (told_until key_cmp now quota past kept k m from is)
           ∙ (ap (λ t. max (retry quota (past k)) t) (rest past (refused_until key_cmp now quota past kept k m key_order h)) ∙ sym (by_law false h))
 
-  -- what is kept after that stands for the moments after it
-  after_is : (keys : List Key) (past : Key → List ℕ) (kept : KeptByKey Key) → MetersUntil key_cmp now quota past kept → MetersUntil key_cmp now quota (λ k. moments_after quota now keys past k) (kept_after kept now keys)
-  after_is [] past kept m = m
+  -- what is kept after that stands for the moments of before and those that it admitted
+  after_is : (keys : List Key) (past : Key → List ℕ) (kept : KeptByKey Key) → MetersUntil key_cmp now quota past kept
+      → MetersUntil key_cmp now quota (λ k. past k ++ at_places k now (admitted_keys quota now keys past)) (kept_after kept now keys)
+  after_is [] past kept m = meters_later key_cmp now now quota past (λ k. past k ++ []) kept m (omega arith) (λ k. append-nil (past k))
   after_is (j ∷ ks) past kept m = by (λ later stands. after_is ks later (checked key_cmp kept j now) stands) (passes key_cmp kept j now) refl
     where
-      same_moments : (later : Key → List ℕ) → MetersUntil key_cmp now quota later (kept_after (checked key_cmp kept j now) now ks)
-          → ((k : Key) → moments_after quota now (j ∷ ks) past k ≡ later k) → MetersUntil key_cmp now quota (λ k. moments_after quota now (j ∷ ks) past k) (kept_after (checked key_cmp kept j now) now ks)
-      same_moments later stands same = meters_later key_cmp now now quota later (λ k. moments_after quota now (j ∷ ks) past k) (kept_after (checked key_cmp kept j now) now ks) stands (omega arith) same
-
       told : (b : Bool) → passes key_cmp kept j now ≡ b → (k : Key)
-          → moments_after quota now (j ∷ ks) past k ≡ cond b (moments_after quota now ks (with_admission key_cmp past j now) k) (moments_after quota now ks past k)
+          → past k ++ at_places k now (admitted_keys quota now (j ∷ ks) past)
+          ≡ past k ++ at_places k now (cond b (j ∷ admitted_keys quota now ks (with_admission key_cmp past j now)) (admitted_keys quota now ks past))
       told b h k =
-          ap (λ t. cond t (moments_after quota now ks (with_admission key_cmp past j now) k) (moments_after quota now ks past k)) (sym (passes_until key_cmp now quota past kept j m) ∙ h)
+          ap (λ t. past k ++ at_places k now (cond t (j ∷ admitted_keys quota now ks (with_admission key_cmp past j now)) (admitted_keys quota now ks past)))
+          (sym (passes_until key_cmp now quota past kept j m) ∙ h)
 
-      by : ((later : Key → List ℕ) → MetersUntil key_cmp now quota later (checked key_cmp kept j now) → MetersUntil key_cmp now quota (λ k. moments_after quota now ks later k) (kept_after (checked key_cmp kept j now) now ks)) → (b : Bool) → passes key_cmp kept j now ≡ b
-          → MetersUntil key_cmp now quota (λ k. moments_after quota now (j ∷ ks) past k) (kept_after (checked key_cmp kept j now) now ks)
+      admit : (here : Bool) (l rest : List ℕ) → l ++ cond here (now ∷ rest) rest ≡ cond here (l ++ now ∷ []) l ++ rest
+      admit true l rest = sym (append_assoc l (now ∷ []) rest)
+      admit false l rest = refl
+
+      by : ((later : Key → List ℕ) → MetersUntil key_cmp now quota later (checked key_cmp kept j now)
+          → MetersUntil key_cmp now quota (λ k. later k ++ at_places k now (admitted_keys quota now ks later)) (kept_after (checked key_cmp kept j now) now ks)) → (b : Bool) → passes key_cmp kept j now ≡ b
+          → MetersUntil key_cmp now quota (λ k. past k ++ at_places k now (admitted_keys quota now (j ∷ ks) past)) (kept_after (checked key_cmp kept j now) now ks)
       by rest true h =
-          same_moments (λ k. moments_after quota now ks (with_admission key_cmp past j now) k)
-          (rest (with_admission key_cmp past j now) (passed_until key_cmp now quota past kept j m key_order h)) (told true h)
+          let more : Key → List ℕ = with_admission key_cmp past j now in
+          meters_later key_cmp now now quota (λ k. more k ++ at_places k now (admitted_keys quota now ks more)) (λ k. past k ++ at_places k now (admitted_keys quota now (j ∷ ks) past))
+          (kept_after (checked key_cmp kept j now) now ks) (rest more (passed_until key_cmp now quota past kept j m key_order h)) (omega arith)
+          (λ k. told true h k ∙ admit (is_at (key_cmp j) k) (past k) (at_places k now (admitted_keys quota now ks more)))
       by rest false h =
-          same_moments (λ k. moments_after quota now ks past k)
-          (rest past (refused_until key_cmp now quota past kept j m key_order h)) (told false h)
+          meters_later key_cmp now now quota (λ k. past k ++ at_places k now (admitted_keys quota now ks past)) (λ k. past k ++ at_places k now (admitted_keys quota now (j ∷ ks) past))
+          (kept_after (checked key_cmp kept j now) now ks) (rest past (refused_until key_cmp now quota past kept j m key_order h)) (omega arith) (told false h)
 
 -- ---- one channel
 
@@ -148,60 +155,50 @@ at-senders_on m c q keys now = by (at m c) refl
 
 -- ---- the channels
 
-same_number : (n : ℕ) → (n == n) ≡ true
-same_number n = grind (arith, nat_tests)
+module _ (log : List Entry) (e : Entry) (n c now : ℕ) (to : Recipients) (is_then : e.event.at ≡ now)
+    (asks : (d : ℕ) (k : Key) → sent_moments (log ++ e ∷ []) n d k ≡ sent_moments log n d k ++ cond (c == d) (at_places k now (keys_admitted log n c now (offered log n c to))) [])
+    (late : latest_moment (events_of log) ≤ now) where
+  -- what the channel that was asked keeps
+  sender_checked :
+      (r : Option Rate) (o : Option (KeptByKey Key)) → SenderStands log n c r o
+      → ((k : Key) → sent_moments (log ++ e ∷ []) n c k ≡ sent_moments log n c k ++ at_places k now (keys_by r now (offered log n c to) (sent_moments log n c)))
+      → SenderStands (log ++ e ∷ []) n c r (option_map (λ kept. kept_after kept now (offered log n c to)) o)
+  sender_checked None None h same = λ k. same k ∙ (append-nil (sent_moments log n c k) ∙ h k)
+  sender_checked (Some rate) (Some kept) h same =
+      meters_entry key_cmp log e (quota_of rate) (λ k. sent_moments log n c k ++ at_places k now (admitted_keys (quota_of rate) now (offered log n c to) (sent_moments log n c))) (sent_moments (log ++ e ∷ []) n c)
+      (kept_after kept now (offered log n c to)) now is_then
+      (after_is now (quota_of rate) (offered log n c to) (sent_moments log n c) kept (meters_at key_cmp log (quota_of rate) (sent_moments log n c) kept now h late)) same
+  sender_checked None (Some kept) h same = absurd h
+  sender_checked (Some rate) None h same = absurd h
 
--- once the quota was asked for these, or not
-asked_by : (b : Bool) (rate : Option Rate) (now : ℕ) (all : List Key) (to : Recipients) (past : Key → List ℕ) (k : Key)
-    → asked_moments rate now all (cond b (Some to) None) past k ≡ cond b (moments_by rate now (keys_of_recipients all to) past k) (past k)
-asked_by true rate now all to past k = refl
-asked_by false rate now all to past k = refl
+  -- what each channel keeps
+  senders_checked :
+      (m : List (ℕ × KeptByKey Key)) → ((d : ℕ) → SenderStands log n d (rate_at log n d) (at m d))
+      → (d : ℕ) → SenderStands (log ++ e ∷ []) n d (rate_at log n d) (at (senders_on (at m c) m c (offered log n c to) now) d)
+  senders_checked m stands d =
+      subst (λ o. SenderStands (log ++ e ∷ []) n d (rate_at log n d) o) (sym (at-senders_on m c d (offered log n c to) now)) (by (d == c) refl)
+    where
+      here : (p : ℕ) → p ≡ c → SenderStands (log ++ e ∷ []) n p (rate_at log n p) (option_map (λ kept. kept_after kept now (offered log n c to)) (at m c))
+      here p same =
+          subst (λ p. SenderStands (log ++ e ∷ []) n p (rate_at log n p) (option_map (λ kept. kept_after kept now (offered log n c to)) (at m c))) (sym same)
+          (sender_checked (rate_at log n c) (at m c) (stands c)
+          (λ k. asks c k ∙ ap (λ b. sent_moments log n c k ++ cond b (at_places k now (keys_admitted log n c now (offered log n c to))) []) (eq-eqb c c refl)))
 
-module _ (log : List Entry) (e : Entry) (n c now : ℕ) (to : Recipients) (asks : (d : ℕ) → asked_for n d e.event.act ≡ cond (d == c) (Some to) None) (is_then : e.event.at ≡ now) where
-  -- the moments after the entry
-  moments_sent : (d : ℕ) (b : Bool) → (d == c) ≡ b → (k : Key)
-      → sent_moments (log ++ e ∷ []) n d k ≡ cond b (moments_by (rate_at log n d) now (offered log n d to) (sent_moments log n d) k) (sent_moments log n d k)
-  moments_sent d b test k =
-      sent_moments-append log e n d k
-      ∙ (ap (λ t. asked_moments (rate_at log n d) t (peers_told log n d) (asked_for n d e.event.act) (sent_moments log n d) k) is_then
-      ∙ (ap (λ o. asked_moments (rate_at log n d) now (peers_told log n d) o (sent_moments log n d) k) (asks d ∙ ap (λ t. cond t (Some to) None) test)
-      ∙ asked_by b (rate_at log n d) now (peers_told log n d) to (sent_moments log n d) k))
+      other : (d == c) ≡ false → (c == d) ≡ false
+      other test = grind (arith, nat_tests)
 
-  module _ (late : latest_moment (events_of log) ≤ now) where
-    -- what the channel that was asked keeps
-    sender_checked :
-        (r : Option Rate) (o : Option (KeptByKey Key)) → SenderStands log n c r o
-        → ((k : Key) → sent_moments (log ++ e ∷ []) n c k ≡ moments_by r now (offered log n c to) (sent_moments log n c) k)
-        → SenderStands (log ++ e ∷ []) n c r (option_map (λ kept. kept_after kept now (offered log n c to)) o)
-    sender_checked None None h same = λ k. same k ∙ h k
-    sender_checked (Some rate) (Some kept) h same =
-        meters_entry key_cmp log e (quota_of rate) (λ k. moments_after (quota_of rate) now (offered log n c to) (sent_moments log n c) k) (sent_moments (log ++ e ∷ []) n c) (kept_after kept now (offered log n c to)) now is_then
-        (after_is now (quota_of rate) (offered log n c to) (sent_moments log n c) kept (meters_at key_cmp log (quota_of rate) (sent_moments log n c) kept now h late)) same
-    sender_checked None (Some kept) h same = absurd h
-    sender_checked (Some rate) None h same = absurd h
-
-    -- what each channel keeps
-    senders_checked :
-        (m : List (ℕ × KeptByKey Key)) → ((d : ℕ) → SenderStands log n d (rate_at log n d) (at m d))
-        → (d : ℕ) → SenderStands (log ++ e ∷ []) n d (rate_at log n d) (at (senders_on (at m c) m c (offered log n c to) now) d)
-    senders_checked m stands d =
-        subst (λ o. SenderStands (log ++ e ∷ []) n d (rate_at log n d) o) (sym (at-senders_on m c d (offered log n c to) now)) (by (d == c) refl)
-      where
-        here : (p : ℕ) → p ≡ c → SenderStands (log ++ e ∷ []) n p (rate_at log n p) (option_map (λ kept. kept_after kept now (offered log n c to)) (at m c))
-        here p same =
-            subst (λ p. SenderStands (log ++ e ∷ []) n p (rate_at log n p) (option_map (λ kept. kept_after kept now (offered log n c to)) (at m c))) (sym same)
-            (sender_checked (rate_at log n c) (at m c) (stands c) (moments_sent c true (same_number c)))
-
-        by : (b : Bool) → (d == c) ≡ b → SenderStands (log ++ e ∷ []) n d (rate_at log n d) (cond b (option_map (λ kept. kept_after kept now (offered log n c to)) (at m c)) (at m d))
-        by true test = here d (eqb-true d c test)
-        by false test = sender_stays log e n d (rate_at log n d) (at m d) (stands d) (moments_sent d false test)
+      by : (b : Bool) → (d == c) ≡ b → SenderStands (log ++ e ∷ []) n d (rate_at log n d) (cond b (option_map (λ kept. kept_after kept now (offered log n c to)) (at m c)) (at m d))
+      by true test = here d (eqb-true d c test)
+      by false test =
+          sender_stays log e n d (rate_at log n d) (at m d) (stands d)
+          (λ k. asks d k ∙ (ap (λ b. sent_moments log n d k ++ cond b (at_places k now (keys_admitted log n c now (offered log n c to))) []) (other test) ∙ append-nil (sent_moments log n d k)))
 
 -- an entry of a node that registers no channel, and in which no connection admits a message
 module _
     (configs : List Config) (log : List Entry) (e : Entry) (n : ℕ) (ch : Channels) (m : List (ℕ × Checked)) (s : ChannelsStand configs log n ch)
     (none : registers_at configs n e.event.act ≡ []) (admits_none : AdmitsNone configs log e n)
     (lines : (d : ℕ) → line (log ++ e ∷ []) (queue.Channel n d) ≡ line log (queue.Channel n d))
-    (checks : (name : ℕ) → at m name ≡ checked_at (log ++ e ∷ []) n name) (closes_none : ClosesNone e n)
+    (checks : (name : ℕ) → at m name ≡ checked_at (log ++ e ∷ []) n name) (closes_none : ClosesNone log e n)
   where
     -- with these quotas of what the node sends
     with_senders : (senders : List (ℕ × KeptByKey Key)) → ((d : ℕ) → SenderStands (log ++ e ∷ []) n d (rate_at log n d) (at senders d)) → ChannelsStand configs (log ++ e ∷ []) n (record ch { senders = senders; checks = m })
@@ -217,16 +214,12 @@ module _
     }
 
     -- the quota of a channel was asked for each key of those that a message is offered to
-    pub channels_asked : (c now : ℕ) (to : Recipients) → ((d : ℕ) → asked_for n d e.event.act ≡ cond (d == c) (Some to) None) → e.event.at ≡ now → latest_moment (events_of log) ≤ now
+    pub channels_asked : (c now : ℕ) (to : Recipients)
+        → ((d : ℕ) (k : Key) → sent_moments (log ++ e ∷ []) n d k ≡ sent_moments log n d k ++ cond (c == d) (at_places k now (keys_admitted log n c now (offered log n c to))) []) → e.event.at ≡ now → latest_moment (events_of log) ≤ now
         → ChannelsStand configs (log ++ e ∷ []) n (record (keys_metered c (offered log n c to) now ch) { checks = m })
     channels_asked c now to asks is_then late =
-        with_senders (senders_on (at ch.senders c) ch.senders c (offered log n c to) now) (senders_checked log e n c now to asks is_then late ch.senders s.senders)
+        with_senders (senders_on (at ch.senders c) ch.senders c (offered log n c to) now) (senders_checked log e n c now to is_then asks late ch.senders s.senders)
 
     -- the quota of no channel was asked
-    pub channels_spent : ((d : ℕ) → asked_for n d e.event.act ≡ None) → ChannelsStand configs (log ++ e ∷ []) n (record ch { checks = m })
-    channels_spent asks = with_senders ch.senders (λ d. sender_stays log e n d (rate_at log n d) (at ch.senders d) (s.senders d) (unasked d))
-      where
-        unasked : (d : ℕ) (k : Key) → sent_moments (log ++ e ∷ []) n d k ≡ sent_moments log n d k
-        unasked d k =
-            sent_moments-append log e n d k
-            ∙ ap (λ o. asked_moments (rate_at log n d) e.event.at (peers_told log n d) o (sent_moments log n d) k) (asks d)
+    pub channels_spent : ((d : ℕ) (k : Key) → sent_moments (log ++ e ∷ []) n d k ≡ sent_moments log n d k) → ChannelsStand configs (log ++ e ∷ []) n (record ch { checks = m })
+    channels_spent unasked = with_senders ch.senders (λ d. sender_stays log e n d (rate_at log n d) (at ch.senders d) (s.senders d) (unasked d))

@@ -1,25 +1,20 @@
 -- What is kept of the quota of what a node sends on each channel, after one more entry.
-use Rattle.std.proofs.Common.{◌≡◌, ℕ, List, [], ◌∷◌, ◌++◌, Option, Some, None, refl, ap, sym, subst, ◌∙◌}
+use Rattle.std.proofs.Common.{◌≡◌, ℕ, List, [], ◌∷◌, ◌++◌, Option, Some, None, refl, sym, subst, ◌∙◌}
 use Rattle.p2p_base.specs.declared.key.Key.{Key}
 use Rattle.p2p_log.specs.declared.config.Config.{Config}
 use Rattle.p2p_log.specs.declared.event.Rate.{Rate}
 use Rattle.p2p_log.specs.declared.entry.Entry.{Entry}
 use Rattle.p2p_log_rules.specs.Facts.{registers_at, rates, rate_in, state_from}
-use Rattle.p2p_log_rules.specs.Admitting.{rate_at, sent_by, sent_moments}
+use Rattle.p2p_log_rules.specs.Admitting.{rate_at, sent_moments}
 use Rattle.p2p_log_rules.specs.Listening.{quota_of}
 use Rattle.p2p_log_rules.specs.Tracking.{key_cmp}
 use Rattle.p2p_log_rules.specs.Told.{told}
-pub use Rattle.p2p_log_rules.proofs.Sends.{sent_moments-append}
 use Rattle.p2p_runtime.specs.QuotaKeys.{KeptByKey}
 use Rattle.p2p_net_queues.specs.Tables.{at}
 use Rattle.p2p_net_queues.proofs.Meters.{meters_frame}
 use Rattle.p2p_net_channels.specs.Channels.{no_channels}
 use Rattle.p2p_net_channels.specs.Stands.{SenderStands, SendsNone}
 use Rattle.p2p_net_channels.proofs.Quotas.{rates-kept}
-
--- an entry in which it admits none
-pub sent_moments-kept : (log : List Entry) (e : Entry) (n c : ℕ) → SendsNone log e n → (k : Key) → sent_moments (log ++ e ∷ []) n c k ≡ sent_moments log n c k
-sent_moments-kept log e n c none k = sent_moments-append log e n c k ∙ none.moments c k
 
 -- no channels, and no log
 pub senders_new : (n c : ℕ) → SenderStands [] n c (rate_at [] n c) (at no_channels.senders c)
@@ -51,4 +46,4 @@ pub senders_stay :
     (configs : List Config) (log : List Entry) (e : Entry) (n : ℕ) (m : List (ℕ × KeptByKey Key)) → ((c : ℕ) → SenderStands log n c (rate_at log n c) (at m c)) → registers_at configs n e.event.act ≡ [] → SendsNone log e n
     → (c : ℕ) → SenderStands (log ++ e ∷ []) n c (rate_at (log ++ e ∷ []) n c) (at m c)
 senders_stay configs log e n m stands none sends c =
-    same_sender_rates configs log e n c (at m c) none (sender_stays log e n c (rate_at log n c) (at m c) (stands c) (sent_moments-kept log e n c sends))
+    same_sender_rates configs log e n c (at m c) none (sender_stays log e n c (rate_at log n c) (at m c) (stands c) (sends.moments c))

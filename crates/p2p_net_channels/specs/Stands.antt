@@ -1,5 +1,5 @@
 -- When the channels of a node stand for a log.
-use Rattle.std.specs.Prelude.{◌≡◌, ℕ, ◌+◌, ◌^◌, ◌<◌, false, List, [], ◌∷◌, ◌++◌, Option, Some, None}
+use Rattle.std.specs.Prelude.{◌≡◌, ℕ, ◌+◌, ◌^◌, ◌<◌, List, [], ◌∷◌, ◌++◌, Option, Some, None}
 use Rattle.std.specs.Ordering.{nat_cmp}
 use Rattle.p2p_base.specs.declared.key.Key.{Key}
 use Rattle.p2p_log.specs.declared.config.Config.{Config}
@@ -7,10 +7,9 @@ use Rattle.p2p_log.specs.declared.queue.Queue.TheVariants as queue
 use Rattle.p2p_log.specs.declared.entry.Entry.{Entry}
 use Rattle.p2p_log.specs.Lines.{line}
 use Rattle.p2p_log.specs.declared.event.Rate.{Rate}
-use Rattle.p2p_log_rules.specs.Admitting.{rate_at, sent_by, sent_moments}
-use Rattle.p2p_log_rules.specs.Checking.{checks_by, checked_at}
+use Rattle.p2p_log_rules.specs.Admitting.{rate_at, sent_moments}
+use Rattle.p2p_log_rules.specs.Checking.{checked_at}
 use Rattle.p2p_log_rules.specs.Closing as closing
-use Rattle.p2p_log_rules.specs.Closing.{closes}
 use Rattle.p2p_log_rules.specs.Tracking.{key_cmp}
 use Rattle.p2p_log_rules.specs.Facts.{channels, registers_at, capacity_in, rates, rate_in, sum_capacities}
 use Rattle.p2p_log_rules.specs.Listening.{quota_of}
@@ -56,12 +55,12 @@ AdmitsNone configs log e n = (conn c : ℕ) → admitted_by (limit_at configs n)
 
 -- an entry in which the quota of no channel admits what the node sends, and that leaves alone what its checks admitted
 pub record SendsNone (log : List Entry) (e : Entry) (n : ℕ) : Type 0 where
-  pub moments : (c : ℕ) (k : Key) → sent_by n c log e (sent_moments log n c) k ≡ sent_moments log n c k
-  pub checks : (name : ℕ) → checks_by n log e (checked_at log n) name ≡ checked_at log n name
+  pub moments : (c : ℕ) (k : Key) → sent_moments (log ++ e ∷ []) n c k ≡ sent_moments log n c k
+  pub checks : (name : ℕ) → checked_at (log ++ e ∷ []) n name ≡ checked_at log n name
 
 -- an entry that drops no reader of the node
-abbrev pub ClosesNone : Entry → ℕ → Type 0
-ClosesNone e n = (c : ℕ) → closes n c e ≡ false
+abbrev pub ClosesNone : List Entry → Entry → ℕ → Type 0
+ClosesNone log e n = (c : ℕ) → closing.is_closed (log ++ e ∷ []) n c ≡ closing.is_closed log n c
 
 -- an entry that leaves them alone
 pub record LeavesChannels (configs : List Config) (log : List Entry) (e : Entry) (n : ℕ) : Type 0 where
@@ -69,4 +68,4 @@ pub record LeavesChannels (configs : List Config) (log : List Entry) (e : Entry)
   pub lines : (c : ℕ) → line (log ++ e ∷ []) (queue.Channel n c) ≡ line log (queue.Channel n c)
   pub admits : AdmitsNone configs log e n
   pub sends : SendsNone log e n
-  pub closes : ClosesNone e n
+  pub closes : ClosesNone log e n

@@ -14,14 +14,14 @@ use Rattle.p2p_log.specs.declared.entry.Entry.{Entry}
 use Rattle.p2p_log.specs.QueueCode.{kind_of, owner_of, detail_of, same_queue}
 use Rattle.p2p_log.specs.Lines.{stands_in, placed}
 use Rattle.p2p_log_rules.specs.Told.{told}
-use Rattle.p2p_log_rules.specs.Connections.{begins, is_begun, answers_by, is_running, is_ended}
-use Rattle.p2p_log_rules.specs.Facts.{history_from, state_from}
+use Rattle.p2p_log_rules.specs.Connections.{begins, is_begun, is_answer, has_run, runs, is_ended}
+use Rattle.p2p_log_rules.specs.Facts.{history_from, state_from, taken}
 use Rattle.p2p_log_rules.specs.Metering.{pings, ping_quota, limit_at, admitted_by, admitted}
 use Rattle.p2p_log_rules.specs.Pings.{ping_frequency_at, last_pinged}
 use Rattle.p2p_log_rules.specs.Spawning.{connections_of}
-use Rattle.p2p_log_rules.proofs.Connections.{is_begun-append, is_running-append}
+use Rattle.p2p_log_rules.proofs.Connections.{is_begun-append, runs_is, has_run-append}
 use Rattle.p2p_runtime.specs.QuotaStep.{IsQuota}
-use Rattle.p2p_net_queues.specs.Tables.{waiting, pushed_at}
+use Rattle.p2p_net_queues.specs.Tables.{at, waiting, pushed_at}
 use Rattle.p2p_net_queues.specs.Lines.{HoldsLines}
 use Rattle.p2p_net_queues.specs.Meters.{Meters}
 use Rattle.p2p_net_queues.proofs.Holding.{holds_none, holds_frame, longer}
@@ -30,17 +30,22 @@ use Rattle.p2p_net_queues.proofs.Tables.{waiting-pushed_at}
 use Rattle.p2p_net_connections.specs.Connections.{no_connections, is_answer_to, answered_in, answered_by, answered}
 use Rattle.p2p_net_connections.specs.Stands.{ConnectionsStand, SpawnsNone, BeginsNone, ReceivesNone, LeavesConnections}
 use Rattle.p2p_net_connections.specs.declared.connections.Connections.{Connections}
+use Rattle.p2p_net_connections.proofs.Dialing.{connected_by-longer}
 use Rattle.p2p_net_connections.proofs.Pings.{pinged-kept}
 
 pub or-false : (b c : Bool) → c ≡ false → (b || c) ≡ b
 or-false true c h = refl
 or-false false c h = h
 
-pub begun-kept : (log : List Entry) (e : Entry) (n conn : ℕ) → begins n conn e ≡ false → is_begun (log ++ e ∷ []) n conn ≡ is_begun log n conn
-begun-kept log e n conn h = is_begun-append log e n conn ∙ or-false (is_begun log n conn) (begins n conn e) h
+pub begun-kept : (log : List Entry) (e : Entry) (n conn : ℕ) → begins n conn log e ≡ false → is_begun (log ++ e ∷ []) n conn ≡ is_begun log n conn
+begun-kept log e n conn h = is_begun-append log e n conn ∙ or-false (is_begun log n conn) (begins n conn log e) h
 
-pub running-kept : (log : List Entry) (e : Entry) (n conn : ℕ) → list_any (λ b. b) (answers_by n conn log e) ≡ false → is_running (log ++ e ∷ []) n conn ≡ is_running log n conn
-running-kept log e n conn h = is_running-append log e n conn ∙ or-false (is_running log n conn) (list_any (λ (b : Bool). b) (answers_by n conn log e)) h
+pub running-kept : (log : List Entry) (e : Entry) (n conn : ℕ) → runs n conn log e ≡ false → has_run (log ++ e ∷ []) n conn ≡ has_run log n conn
+running-kept log e n conn h = has_run-append log e n conn ∙ or-false (has_run log n conn) (runs n conn log e) h
+
+-- one of which no step is done is not answered
+pub idle-kept : (log : List Entry) (e : Entry) (n conn : ℕ) → begins n conn log e ≡ false → has_run (log ++ e ∷ []) n conn ≡ has_run log n conn
+idle-kept log e n conn h = running-kept log e n conn (runs_is log e n conn ∙ ap (λ b. b && list_any is_answer (taken log e)) h)
 
 -- ---- what came over them
 
@@ -68,9 +73,10 @@ is_ping_quota frequency = record { some_burst = omega arith; some_period = omega
 
 -- no connections stand for no log
 pub connections_new : (configs : List Config) (n : ℕ) → ConnectionsStand configs [] n (no_connections (ping_frequency_at configs n))
-unfolding is_begun is_running is_ended last_pinged admitted history_from state_from told connections_of
+unfolding is_begun has_run is_ended last_pinged admitted history_from state_from told connections_of
 connections_new configs n = record {
   spawned = λ conn. refl;
+  reserved = λ conn. tt;
   begun = λ conn. refl;
   running = λ conn. refl;
   pinged = λ conn. refl;
@@ -85,9 +91,10 @@ pub connections_answered :
     → ReceivesNone configs log e n → HoldsLines (queue.Ready n) (log ++ e ∷ []) answers → ConnectionsStand configs (log ++ e ∷ []) n (record cs { answers = answers })
 connections_answered configs log e n cs answers s spawns none receives waits = record {
   spawned = λ conn. s.spawned conn ∙ sym (spawns conn);
-  begun = λ conn. s.begun conn ∙ sym (begun-kept log e n conn (none.no_begin conn));
-  running = λ conn. s.running conn ∙ sym (running-kept log e n conn (ap (list_any (λ (b : Bool). b)) (none.no_answer conn)));
-  pinged = λ conn. s.pinged conn ∙ sym (pinged-kept configs log e n conn (none.no_begin conn));
+  reserved = λ conn. connected_by-longer log (e ∷ []) n (at cs.spawned conn) (s.reserved conn);
+  begun = λ conn. s.begun conn ∙ sym (begun-kept log e n conn (none conn));
+  running = λ conn. s.running conn ∙ sym (idle-kept log e n conn (none conn));
+  pinged = λ conn. s.pinged conn ∙ sym (pinged-kept configs log e n conn (none conn));
   waits = waits;
   holds = holds_kept configs log e n cs s receives;
   pings = pings_kept configs log e n cs s receives.no_ping;

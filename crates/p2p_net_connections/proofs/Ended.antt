@@ -5,7 +5,7 @@ use Rattle.std.specs.Ordering.{nat_cmp}
 use Rattle.p2p_log.specs.declared.config.Config.{Config}
 use Rattle.p2p_log.specs.declared.queue.Queue.TheVariants as queue
 use Rattle.p2p_log.specs.declared.entry.Entry.{Entry}
-use Rattle.p2p_log_rules.specs.Connections.{begins, is_running, ends_connection, is_ended, live_connection}
+use Rattle.p2p_log_rules.specs.Connections.{begins, ends_connection, is_ended, live_connection}
 use Rattle.p2p_log_rules.specs.Metering.{pings, ping_quota, limit_at, admitted_by, admitted}
 use Rattle.p2p_log_rules.specs.Pings.{ping_frequency_at}
 use Rattle.p2p_log_rules.specs.Spawning.{Spawned, connections_of}
@@ -14,18 +14,19 @@ use Rattle.p2p_net_queues.specs.Lines.{HoldsLines}
 use Rattle.p2p_net_queues.specs.Meters.{Meters}
 use Rattle.p2p_net_queues.specs.Tables.{AreBut, at}
 use Rattle.p2p_net_connections.specs.Connections.{runs_on, pinged_on, spawned_on}
+use Rattle.p2p_net_connections.specs.Dialing.{IsConnectedBy}
 use Rattle.p2p_net_connections.specs.Stands.{ConnectionsStand}
 use Rattle.p2p_net_connections.specs.declared.connections.Connection.{Connection}
 use Rattle.p2p_net_connections.specs.declared.connections.Connections.{Connections}
-use Rattle.p2p_net_connections.proofs.Changes.{begun-kept, pings_kept}
+use Rattle.p2p_net_connections.proofs.Changes.{begun-kept, idle-kept, pings_kept}
+use Rattle.p2p_net_connections.proofs.Dialing.{connected_by-longer, connected_by-cond}
 use Rattle.p2p_net_connections.proofs.Pings.{pinged-kept}
 
--- an entry that ends this connection and no other; none is made or begins, the same run, and none admits a ping
+-- an entry that ends this connection and no other; none is made or begins, and none admits a ping
 pub record EndsOne (configs : List Config) (log : List Entry) (e : Entry) (n conn : ℕ) : Type 0 where
-  pub ends : (k : ℕ) → ends_connection n k e ≡ (k == conn)
+  pub ends : (k : ℕ) → ends_connection n k log e ≡ (k == conn)
   pub makes_none : (k : ℕ) → connections_of (log ++ e ∷ []) n k ≡ connections_of log n k
-  pub no_begin : (k : ℕ) → begins n k e ≡ false
-  pub runs : (k : ℕ) → is_running (log ++ e ∷ []) n k ≡ is_running log n k
+  pub no_begin : (k : ℕ) → begins n k log e ≡ false
   pub no_ping : (k : ℕ) → admitted_by (limit_at configs n) n k pings log e ≡ []
 
 -- it is none of those that live from then on
@@ -55,8 +56,11 @@ connections_ended configs log e n conn cs new s one left stages quota waits hold
       ap spawned_on (left k)
       ∙ (spawned_but (k == conn) (at cs.spawned k)
       ∙ (ap (λ (o : Option Spawned). cond (k == conn) None o) (s.spawned k) ∙ sym (live_connection-ended configs log e n conn one k)));
+  reserved = λ k.
+      subst (IsConnectedBy (log ++ e ∷ []) n) (sym (left k))
+      (connected_by-cond (log ++ e ∷ []) n (k == conn) None (at cs.spawned k) tt (connected_by-longer log (e ∷ []) n (at cs.spawned k) (s.reserved k)));
   begun = λ k. ap (λ st. is_some (at st k)) stages ∙ (s.begun k ∙ sym (begun-kept log e n k (one.no_begin k)));
-  running = λ k. ap (λ st. runs_on (at st k)) stages ∙ (s.running k ∙ sym (one.runs k));
+  running = λ k. ap (λ st. runs_on (at st k)) stages ∙ (s.running k ∙ sym (idle-kept log e n k (one.no_begin k)));
   pinged = λ k. ap (λ st. pinged_on (at st k)) stages ∙ (s.pinged k ∙ sym (pinged-kept configs log e n k (one.no_begin k)));
   waits = waits;
   holds = holds;

@@ -1,5 +1,6 @@
 pub mod Beginning
 pub mod Changes
+pub mod Dialing
 pub mod Ended
 pub mod Pings
 pub mod Receiving

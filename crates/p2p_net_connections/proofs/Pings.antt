@@ -1,16 +1,17 @@
 -- From where the connections of a node count to their next pings, after one more entry.
 use Rattle.std.proofs.Common.{◌≡◌, ℕ, Bool, true, false, cond, List, [], ◌∷◌, ◌++◌, Option, Some, None, refl, ap, sym, ◌∙◌}
-use Rattle.std.specs.Prelude.{◌&&◌, ◌||◌, map, is_some}
+use Rattle.std.specs.Prelude.{◌&&◌, ◌||◌, is_some}
 use Rattle.std.specs.List.{list_any}
 use Rattle.p2p_log.specs.declared.config.Config.{Config}
 use Rattle.p2p_log.specs.declared.item.Item.{Item}
 use Rattle.p2p_log.specs.declared.entry.Entry.{Entry}
 use Rattle.p2p_log.specs.declared.event.Event.{Event}
-use Rattle.p2p_log_rules.specs.Connections.{steps_sender, is_done, begins, is_answer, answers_by, is_running}
+use Rattle.p2p_log_rules.specs.Connections.{begins, is_answer, has_run, runs}
 use Rattle.p2p_log_rules.specs.Facts.{taken}
 use Rattle.p2p_log_rules.specs.Pings.{ping_frequency_at, is_past, last_pinged, ping_is_due}
 use Rattle.p2p_log_rules.specs.Effect.{effect}
 pub use Rattle.p2p_log_rules.proofs.Pinging.{last_pinged-kept as pinged-kept}
+use Rattle.p2p_log_rules.proofs.Connections.{runs_is}
 use Rattle.p2p_log_rules.proofs.Pinging.{counted_from, pinged_by, PingsWhenDue, last_pinged-append}
 use Rattle.p2p_log_rules.proofs.PingRows.{RunsWhenDue, pings_when_due}
 use Rattle.p2p_net_queues.specs.Tables.{at}
@@ -22,34 +23,24 @@ use Rattle.p2p_net_connections.specs.declared.connections.Stage.TheVariants as s
 
 -- ---- by the log
 
-any_mapped : (items : List Item) → list_any (λ b. b) (map is_answer items) ≡ list_any is_answer items
-any_mapped [] = refl
-any_mapped (i ∷ items) = ap (λ b. is_answer i || b) (any_mapped items)
-
 -- one that did not count yet does so once it took its router's answer
-pinged_first : (frequency n conn : ℕ) (log : List Entry) (e : Entry)
-    → pinged_by frequency n conn log e None ≡ cond (begins n conn e && list_any (λ b. b) (answers_by n conn log e)) (Some e.event.at) None
-pinged_first frequency n conn log e = by (steps_sender n conn e.event.act) (is_done e.reply)
+pinged_first : (frequency n conn : ℕ) (log : List Entry) (e : Entry) → pinged_by frequency n conn log e None ≡ cond (runs n conn log e) (Some e.event.at) None
+pinged_first frequency n conn log e = by (begins n conn log e) (list_any is_answer (taken log e)) ∙ ap (λ b. cond b (Some e.event.at) None) (sym (runs_is log e n conn))
   where
-    by : (s d : Bool) → cond (s && d) (counted_from frequency e.event.at (taken log e) None) None ≡ cond ((s && d) && list_any (λ b. b) (cond s (map is_answer (taken log e)) [])) (Some e.event.at) None
-    by true true = ap (λ b. cond b (Some e.event.at) None) (sym (any_mapped (taken log e)))
-    by true false = refl
-    by false d = refl
+    by : (steps answered : Bool) → cond steps (cond answered (Some e.event.at) None) None ≡ cond (steps && answered) (Some e.event.at) None
+    by true answered = refl
+    by false answered = refl
 
 pub last_pinged-first : (configs : List Config) (log : List Entry) (e : Entry) (n conn : ℕ) → PingsWhenDue configs log e n conn → last_pinged configs log n conn ≡ None
-    → last_pinged configs (log ++ e ∷ []) n conn ≡ cond (begins n conn e && list_any (λ b. b) (answers_by n conn log e)) (Some e.event.at) None
+    → last_pinged configs (log ++ e ∷ []) n conn ≡ cond (runs n conn log e) (Some e.event.at) None
 last_pinged-first configs log e n conn pings none =
     last_pinged-append configs log e n conn pings ∙ (ap (pinged_by (ping_frequency_at configs n) n conn log e) none ∙ pinged_first (ping_frequency_at configs n) n conn log e)
 
 -- it did not count, and takes no answer
-pub pinged-idle : (configs : List Config) (log : List Entry) (e : Entry) (n conn : ℕ) → PingsWhenDue configs log e n conn → last_pinged configs log n conn ≡ None → list_any (λ b. b) (answers_by n conn log e) ≡ false
+pub pinged-idle : (configs : List Config) (log : List Entry) (e : Entry) (n conn : ℕ) → PingsWhenDue configs log e n conn → last_pinged configs log n conn ≡ None → runs n conn log e ≡ false
     → last_pinged configs (log ++ e ∷ []) n conn ≡ last_pinged configs log n conn
 pinged-idle configs log e n conn pings none no_answer =
-    last_pinged-first configs log e n conn pings none ∙ (ap (λ b. cond (begins n conn e && b) (Some e.event.at) None) no_answer ∙ (nothing (begins n conn e) ∙ sym none))
-  where
-    nothing : (b : Bool) → cond (b && false) (Some e.event.at) None ≡ None
-    nothing true = refl
-    nothing false = refl
+    last_pinged-first configs log e n conn pings none ∙ (ap (λ b. cond b (Some e.event.at) None) no_answer ∙ sym none)
 
 -- it counts, and no ping is due
 pub pinged-early : (configs : List Config) (log : List Entry) (e : Entry) (n conn from : ℕ) → PingsWhenDue configs log e n conn → last_pinged configs log n conn ≡ Some from → ping_is_due configs log n conn e.event.at ≡ false
@@ -59,14 +50,14 @@ pinged-early configs log e n conn from pings last early =
     let not_past : is_past frequency e.event.at (Some from) ≡ false = ap (is_past frequency e.event.at) (sym last) ∙ early in
     last_pinged-append configs log e n conn pings
     ∙ (ap (pinged_by frequency n conn log e) last
-    ∙ (ap (λ b. cond (begins n conn e) (cond b (Some e.event.at) (Some from)) (Some from)) not_past ∙ (same (begins n conn e) ∙ sym last)))
+    ∙ (ap (λ b. cond (begins n conn log e) (cond b (Some e.event.at) (Some from)) (Some from)) not_past ∙ (same (begins n conn log e) ∙ sym last)))
   where
     same : (b : Bool) → cond b (Some from) (Some from) ≡ Some from
     same true = refl
     same false = refl
 
 -- a ping is due, and its step is done
-pub pinged-due : (configs : List Config) (log : List Entry) (e : Entry) (n conn : ℕ) → PingsWhenDue configs log e n conn → ping_is_due configs log n conn e.event.at ≡ true → begins n conn e ≡ true → last_pinged configs (log ++ e ∷ []) n conn ≡ Some e.event.at
+pub pinged-due : (configs : List Config) (log : List Entry) (e : Entry) (n conn : ℕ) → PingsWhenDue configs log e n conn → ping_is_due configs log n conn e.event.at ≡ true → begins n conn log e ≡ true → last_pinged configs (log ++ e ∷ []) n conn ≡ Some e.event.at
 pinged-due configs log e n conn pings due steps =
     last_pinged-append configs log e n conn pings
     ∙ (ap (λ b. cond b (counted_from frequency e.event.at (taken log e) (last_pinged configs log n conn)) (last_pinged configs log n conn)) steps ∙ by (last_pinged configs log n conn) due)
@@ -102,29 +93,29 @@ running_begun (Some (stage.Running pinged)) h = refl
 
 module _ (configs : List Config) (log : List Entry) (n : ℕ) (cs : Connections) (s : ConnectionsStand configs log n cs) where
   -- one that does not run counts from nowhere
-  pub not_pinged : (conn : ℕ) → is_running log n conn ≡ false → last_pinged configs log n conn ≡ None
+  pub not_pinged : (conn : ℕ) → has_run log n conn ≡ false → last_pinged configs log n conn ≡ None
   not_pinged conn idle = sym (s.pinged conn) ∙ idle_stage (at cs.stages conn) (s.running conn ∙ idle)
 
   -- and no ping of it is due
-  pub not_due : (conn now : ℕ) → is_running log n conn ≡ false → ping_is_due configs log n conn now ≡ false
+  pub not_due : (conn now : ℕ) → has_run log n conn ≡ false → ping_is_due configs log n conn now ≡ false
   not_due conn now idle = ap (is_past (ping_frequency_at configs n) now) (not_pinged conn idle)
 
   -- one that counts from nowhere does not run
-  pub not_running : (conn : ℕ) → last_pinged configs log n conn ≡ None → is_running log n conn ≡ false
+  pub not_running : (conn : ℕ) → last_pinged configs log n conn ≡ None → has_run log n conn ≡ false
   not_running conn none = sym (s.running conn) ∙ uncounted_stage (at cs.stages conn) (s.pinged conn ∙ none)
 
   -- one of which a ping is due runs
-  pub due_runs : (conn now : ℕ) → ping_is_due configs log n conn now ≡ true → is_running log n conn ≡ true
+  pub due_runs : (conn now : ℕ) → ping_is_due configs log n conn now ≡ true → has_run log n conn ≡ true
   due_runs conn now due = by (last_pinged configs log n conn) refl due
     where
-      by : (o : Option ℕ) → last_pinged configs log n conn ≡ o → is_past (ping_frequency_at configs n) now o ≡ true → is_running log n conn ≡ true
+      by : (o : Option ℕ) → last_pinged configs log n conn ≡ o → is_past (ping_frequency_at configs n) now o ≡ true → has_run log n conn ≡ true
       by None last past = cc
       by (Some from) last past = sym (s.running conn) ∙ counted_stage (at cs.stages conn) from (s.pinged conn ∙ last)
 
   -- and has begun
   pub runs_when_due : (conn now : ℕ) → RunsWhenDue configs log n conn now
   runs_when_due conn now due =
-      let runs : is_running log n conn ≡ true = due_runs conn now due in
+      let runs : has_run log n conn ≡ true = due_runs conn now due in
       (sym (s.begun conn) ∙ running_begun (at cs.stages conn) (s.running conn ∙ runs), runs)
 
   -- so an entry of the log's own pings where that is due

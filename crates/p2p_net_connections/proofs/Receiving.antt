@@ -14,12 +14,14 @@ use Rattle.p2p_log_rules.specs.Pings.{ping_frequency_at}
 use Rattle.p2p_runtime.specs.QuotaKeys.{KeptByKey}
 use Rattle.p2p_net_queues.specs.Lines.{HoldsLines}
 use Rattle.p2p_net_queues.specs.Meters.{Meters, checked}
+use Rattle.p2p_net_queues.specs.Tables.{at}
 use Rattle.p2p_net_queues.proofs.Holding.{holds_frame}
 use Rattle.p2p_net_queues.proofs.Meters.{admitted-append, passes_is, numbers_checked}
 use Rattle.p2p_net_connections.specs.Connections.{may_ping, ping_metered}
 use Rattle.p2p_net_connections.specs.Stands.{ConnectionsStand, SpawnsNone, BeginsNone}
 use Rattle.p2p_net_connections.specs.declared.connections.Connections.{Connections}
-use Rattle.p2p_net_connections.proofs.Changes.{pings_kept, begun-kept, running-kept}
+use Rattle.p2p_net_connections.proofs.Changes.{pings_kept, begun-kept, idle-kept}
+use Rattle.p2p_net_connections.proofs.Dialing.{connected_by-longer}
 use Rattle.p2p_net_connections.proofs.Pings.{pinged-kept}
 
 -- these wait for the quotas, and what is kept of the quota of pings stands for those that were admitted
@@ -29,9 +31,10 @@ received :
     → Meters nat_cmp (log ++ e ∷ []) (ping_quota (ping_frequency_at configs n)) (λ conn. admitted configs (log ++ e ∷ []) n conn pings) kept → ConnectionsStand configs (log ++ e ∷ []) n (record cs { held = w; pings = kept })
 received configs log e n cs w kept s spawns none lines holds counts = record {
   spawned = λ conn. s.spawned conn ∙ sym (spawns conn);
-  begun = λ conn. s.begun conn ∙ sym (begun-kept log e n conn (none.no_begin conn));
-  running = λ conn. s.running conn ∙ sym (running-kept log e n conn (ap (list_any (λ (b : Bool). b)) (none.no_answer conn)));
-  pinged = λ conn. s.pinged conn ∙ sym (pinged-kept configs log e n conn (none.no_begin conn));
+  reserved = λ conn. connected_by-longer log (e ∷ []) n (at cs.spawned conn) (s.reserved conn);
+  begun = λ conn. s.begun conn ∙ sym (begun-kept log e n conn (none conn));
+  running = λ conn. s.running conn ∙ sym (idle-kept log e n conn (none conn));
+  pinged = λ conn. s.pinged conn ∙ sym (pinged-kept configs log e n conn (none conn));
   waits = holds_frame (queue.Ready n) log e cs.answers s.waits lines;
   holds = holds;
   pings = counts;

@@ -1,5 +1,5 @@
 -- The connections of a node with one more that its spawner made.
-use Rattle.std.proofs.Common.{◌≡◌, ℕ, Bool, true, false, cond, List, [], ◌∷◌, ◌++◌, length, refl, ap, sym, ◌∙◌, Option, Some}
+use Rattle.std.proofs.Common.{◌≡◌, ℕ, Bool, true, false, cond, List, [], ◌∷◌, ◌++◌, length, refl, ap, sym, subst, ◌∙◌, Option, Some}
 use Rattle.std.specs.Prelude.{◌==◌}
 use Rattle.std.specs.List.{list_any}
 use Rattle.p2p_base.specs.declared.key.Key.{Key}
@@ -15,10 +15,12 @@ use Rattle.p2p_log_rules.specs.Spawning.{Spawned}
 use Rattle.p2p_net_queues.specs.Tables.{at}
 use Rattle.p2p_net_queues.proofs.Tables.{at-inserted}
 use Rattle.p2p_net_connections.specs.Connections.{spawned_on, spawned_with}
+use Rattle.p2p_net_connections.specs.Dialing.{IsReservedOver, IsConnectedBy}
 use Rattle.p2p_net_connections.specs.Stands.{ConnectionsStand, BeginsNone, ReceivesNone}
 use Rattle.p2p_net_connections.specs.declared.connections.Connection.{Connection}
 use Rattle.p2p_net_connections.specs.declared.connections.Connections.{Connections}
-use Rattle.p2p_net_connections.proofs.Changes.{begun-kept, running-kept, holds_kept, pings_kept}
+use Rattle.p2p_net_connections.proofs.Changes.{begun-kept, idle-kept, holds_kept, pings_kept}
+use Rattle.p2p_net_connections.proofs.Dialing.{reserved_over-longer, connected_by-longer, connected_by-cond}
 use Rattle.p2p_net_connections.proofs.Pings.{pinged-kept}
 
 on_cond : (b : Bool) (c : Connection) (o : Option Connection) → spawned_on (cond b (Some c) o) ≡ cond b (spawned_on (Some c)) (spawned_on o)
@@ -29,16 +31,20 @@ on_cond false c o = refl
 pub connections_spawned :
     (configs : List Config) (log : List Entry) (e : Entry) (n link : ℕ) (m : Metadata Key) (cs : Connections) → ConnectionsStand configs log n cs
     → ((conn : ℕ) → live_connection (log ++ e ∷ []) n conn ≡ with_named (length log) (Some (record { key = peer_of m; link = link })) (live_connection log n) conn)
-    → BeginsNone log e n → ReceivesNone configs log e n → ((conn : ℕ) → line (log ++ e ∷ []) (queue.Ready n conn) ≡ line log (queue.Ready n conn))
+    → IsReservedOver log n link m → BeginsNone log e n → ReceivesNone configs log e n → ((conn : ℕ) → line (log ++ e ∷ []) (queue.Ready n conn) ≡ line log (queue.Ready n conn))
     → ConnectionsStand configs (log ++ e ∷ []) n (spawned_with (length log) link m cs)
-connections_spawned configs log e n link m cs s made none receives lines = record {
+connections_spawned configs log e n link m cs s made side none receives lines = record {
   spawned = λ conn.
       ap spawned_on (at-inserted (length log) conn (record { link = link; reservation = m }) cs.spawned)
       ∙ (on_cond (conn == length log) (record { link = link; reservation = m }) (at cs.spawned conn)
       ∙ (ap (λ (o : Option Spawned). cond (conn == length log) (Some (record { key = peer_of m; link = link })) o) (s.spawned conn) ∙ sym (made conn)));
-  begun = λ conn. s.begun conn ∙ sym (begun-kept log e n conn (none.no_begin conn));
-  running = λ conn. s.running conn ∙ sym (running-kept log e n conn (ap (list_any (λ (b : Bool). b)) (none.no_answer conn)));
-  pinged = λ conn. s.pinged conn ∙ sym (pinged-kept configs log e n conn (none.no_begin conn));
+  reserved = λ conn.
+      subst (IsConnectedBy (log ++ e ∷ []) n) (sym (at-inserted (length log) conn (record { link = link; reservation = m }) cs.spawned))
+      (connected_by-cond (log ++ e ∷ []) n (conn == length log) (Some (record { link = link; reservation = m })) (at cs.spawned conn)
+      (reserved_over-longer log (e ∷ []) n link m side) (connected_by-longer log (e ∷ []) n (at cs.spawned conn) (s.reserved conn)));
+  begun = λ conn. s.begun conn ∙ sym (begun-kept log e n conn (none conn));
+  running = λ conn. s.running conn ∙ sym (idle-kept log e n conn (none conn));
+  pinged = λ conn. s.pinged conn ∙ sym (pinged-kept configs log e n conn (none conn));
   waits = λ conn. s.waits conn ∙ sym (lines conn);
   holds = holds_kept configs log e n cs s receives;
   pings = pings_kept configs log e n cs s receives.no_ping;

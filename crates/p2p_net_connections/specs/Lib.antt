@@ -1,4 +1,5 @@
 pub mod Connections
+pub mod Dialing
 pub mod Spawner
 pub mod SpawnerStands
 pub mod Stands

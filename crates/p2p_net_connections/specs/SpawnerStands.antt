@@ -13,15 +13,16 @@ use Rattle.p2p_log.specs.declared.entry.Entry.{Entry}
 use Rattle.p2p_log.specs.Lines.{name_of, line}
 use Rattle.p2p_log_rules.specs.Rows.{mailbox_size_at}
 use Rattle.p2p_net_queues.specs.Matching.{Match}
+use Rattle.p2p_net_connections.specs.Dialing.{IsReservedOver}
 use Rattle.p2p_net_connections.specs.declared.spawner.Spawning.{Spawning}
 
--- the item asks for the connection that the message asks for
-abbrev pub IsSpawn : Item → Message Key → Type 0
-IsSpawn (item.Spawn key link) m = (reserved : Metadata Key) × (peer_of reserved ≡ key) × (m ≡ spawn_of link reserved)
-IsSpawn _ m = ⊥
+-- the item asks for the connection of a node that the message asks for, by a reservation of its side
+abbrev pub IsSpawn : List Entry → ℕ → Item → Message Key → Type 0
+IsSpawn log n (item.Spawn key link) m = (reserved : Metadata Key) × (peer_of reserved ≡ key) × (m ≡ spawn_of link reserved) × IsReservedOver log n link reserved
+IsSpawn log n _ m = ⊥
 
 pub record SpawnerStands (configs : List Config) (log : List Entry) (n : ℕ) (s : Spawning) : Type 0 where
   pub names : s.names ≡ map name_of (line log (queue.Spawner n))
-  pub messages : Match (λ x m. IsSpawn x.item m) (line log (queue.Spawner n)) s.mailbox.items
+  pub messages : Match (λ x m. IsSpawn log n x.item m) (line log (queue.Spawner n)) s.mailbox.items
   pub is_open : s.mailbox.closed ≡ false
   pub size : s.mailbox.capacity ≡ mailbox_size_at configs n

@@ -5,19 +5,21 @@ use Rattle.p2p_log.specs.declared.config.Config.{Config}
 use Rattle.p2p_log.specs.declared.queue.Queue.TheVariants as queue
 use Rattle.p2p_log.specs.declared.entry.Entry.{Entry}
 use Rattle.p2p_log.specs.Lines.{line}
-use Rattle.p2p_log_rules.specs.Connections.{begins, is_begun, answers_by, is_running, live_connection}
+use Rattle.p2p_log_rules.specs.Connections.{begins, is_begun, has_run, live_connection}
 use Rattle.p2p_log_rules.specs.Metering.{pings, ping_quota, limit_at, admitted_by, admitted}
 use Rattle.p2p_log_rules.specs.Pings.{ping_frequency_at, last_pinged}
 use Rattle.p2p_net_queues.specs.Lines.{HoldsLines}
 use Rattle.p2p_net_queues.specs.Meters.{Meters}
 use Rattle.p2p_net_queues.specs.Tables.{at}
 use Rattle.p2p_net_connections.specs.Connections.{runs_on, pinged_on, spawned_on}
+use Rattle.p2p_net_connections.specs.Dialing.{IsConnectedBy}
 use Rattle.p2p_net_connections.specs.declared.connections.Connections.{Connections}
 
 pub record ConnectionsStand (configs : List Config) (log : List Entry) (n : ℕ) (cs : Connections) : Type 0 where
   pub spawned : (conn : ℕ) → spawned_on (at cs.spawned conn) ≡ live_connection log n conn
+  pub reserved : (conn : ℕ) → IsConnectedBy log n (at cs.spawned conn)
   pub begun : (conn : ℕ) → is_some (at cs.stages conn) ≡ is_begun log n conn
-  pub running : (conn : ℕ) → runs_on (at cs.stages conn) ≡ is_running log n conn
+  pub running : (conn : ℕ) → runs_on (at cs.stages conn) ≡ has_run log n conn
   pub pinged : (conn : ℕ) → pinged_on (at cs.stages conn) ≡ last_pinged configs log n conn
   pub waits : HoldsLines (queue.Ready n) log cs.answers
   -- what waits for their quotas, and the quota of pings counts what each of them admitted
@@ -29,9 +31,8 @@ abbrev pub SpawnsNone : List Entry → Entry → ℕ → Type 0
 SpawnsNone log e n = (conn : ℕ) → live_connection (log ++ e ∷ []) n conn ≡ live_connection log n conn
 
 -- an entry in which none of them begins or pings, and none takes an answer
-pub record BeginsNone (log : List Entry) (e : Entry) (n : ℕ) : Type 0 where
-  pub no_begin : (conn : ℕ) → begins n conn e ≡ false
-  pub no_answer : (conn : ℕ) → answers_by n conn log e ≡ []
+abbrev pub BeginsNone : List Entry → Entry → ℕ → Type 0
+BeginsNone log e n = (conn : ℕ) → begins n conn log e ≡ false
 
 -- an entry that leaves alone what waits for their quotas, and in which none admits a ping
 pub record ReceivesNone (configs : List Config) (log : List Entry) (e : Entry) (n : ℕ) : Type 0 where

@@ -37,7 +37,8 @@ pub record ChangesAttempt (configs : List Config) (log : List Entry) (e : Entry)
   pub dials : dials_of configs (log ++ e ∷ []) n ≡ dials_of configs log n
   pub actor : u.actor ≡ d.actor
   pub others : AreBut name now d.attempts u.attempts
-  pub tried : (k : ℕ) → attempts_of configs (log ++ e ∷ []) n k ≡ cond (k == name) next (attempts_of configs log n k)
+  pub tried : attempts_of configs (log ++ e ∷ []) n name ≡ next
+  pub untried : (k : ℕ) → (k == name) ≡ false → attempts_of configs (log ++ e ∷ []) n k ≡ attempts_of configs log n k
   pub lines : (k : ℕ) → (k == name) ≡ false → line (log ++ e ∷ []) (queue.Attempt n k) ≡ line log (queue.Attempt n k)
   pub stands : AttemptStands (gates_at configs n) name now next (line (log ++ e ∷ []) (queue.Attempt n name))
 
@@ -47,7 +48,7 @@ attempt_changed configs log e n name d u now next s q = record {
   actor = q.actor ∙ actor_kept configs log e n d s q.no_start q.dials;
   attempts = λ k.
       subst (λ r. AttemptStands g k r (attempts_of configs (log ++ e ∷ []) n k) (after k)) (sym (q.others k))
-      (subst (λ a. AttemptStands g k (cond (k == name) now (table.at d.attempts k)) a (after k)) (sym (q.tried k)) (by k (k == name) refl));
+      (by k (k == name) refl);
 }
   where
     g : Gates
@@ -56,9 +57,11 @@ attempt_changed configs log e n name d u now next s q = record {
     after : ℕ → List Envelope
     after k = line (log ++ e ∷ []) (queue.Attempt n k)
 
-    by : (k : ℕ) (b : Bool) → (k == name) ≡ b → AttemptStands g k (cond b now (table.at d.attempts k)) (cond b next (attempts_of configs log n k)) (after k)
-    by k true is = subst (λ j. AttemptStands g j now next (after j)) (sym (eqb-true k name is)) q.stands
-    by k false is = subst (AttemptStands g k (table.at d.attempts k) (attempts_of configs log n k)) (sym (q.lines k is)) (s.attempts k)
+    by : (k : ℕ) (b : Bool) → (k == name) ≡ b → AttemptStands g k (cond b now (table.at d.attempts k)) (attempts_of configs (log ++ e ∷ []) n k) (after k)
+    by k true is = subst (λ j. AttemptStands g j now (attempts_of configs (log ++ e ∷ []) n j) (after j)) (sym (eqb-true k name is)) (subst (λ a. AttemptStands g name now a (after name)) (sym q.tried) q.stands)
+    by k false is =
+        subst (λ a. AttemptStands g k (table.at d.attempts k) a (after k)) (sym (q.untried k is))
+        (subst (AttemptStands g k (table.at d.attempts k) (attempts_of configs log n k)) (sym (q.lines k is)) (s.attempts k))
 
 -- ---- what one is told of the end of an exchange
 
@@ -120,13 +123,6 @@ module _ (configs : List Config) (log : List Entry) (n name : ℕ) (ok : Bool) (
       g : Gates
       g = gates_at configs n
 
-      same_tried : (b : Option Attempt) → attempts name ≡ b → (k : ℕ) → attempts_of configs (log ++ e ∷ []) n k ≡ cond (k == name) b (attempts k)
-      same_tried b is k = tries k ∙ at (k == name) refl
-        where
-          at : (c : Bool) → (k == name) ≡ c → attempts k ≡ cond c b (attempts k)
-          at true same = ap attempts (eqb-true k name same) ∙ is
-          at false other = refl
-
       changed : (now : Option RunningAttempt) (b : Option Attempt) → attempts name ≡ b → AreBut name now d.attempts u.attempts → AttemptStands g name now b (line (log ++ e ∷ []) q)
           → DialerStands configs (log ++ e ∷ []) n u
       changed now b is but stands = attempt_changed configs log e n name d u now b s (record {
@@ -134,7 +130,8 @@ module _ (configs : List Config) (log : List Entry) (n name : ℕ) (ok : Bool) (
         dials = dials;
         actor = actor;
         others = but;
-        tried = same_tried b is;
+        tried = tries name ∙ is;
+        untried = λ k other. tries k;
         lines = others;
         stands = stands;
       })

@@ -5,6 +5,7 @@ use Rattle.std.specs.Option.{option_map}
 use Rattle.std.specs.BTreeMap.{is_at, insert_entry}
 use Rattle.std.specs.Ordering.{nat_cmp}
 use Rattle.std.proofs.lemmas.Bool.Decides.{nat_tests}
+use Rattle.p2p_log_rules.proofs.Bools.{or_true}
 use Rattle.p2p_base.specs.declared.key.Key.{Key}
 use Rattle.p2p_tracker_directory.specs.declared.metadata.Metadata.{Metadata}
 use Rattle.p2p_tracker_directory.specs.declared.metadata.Metadata.TheVariants as metadata
@@ -18,18 +19,16 @@ use Rattle.p2p_log.specs.declared.queue.Queue.TheVariants as queue
 use Rattle.p2p_log.specs.declared.item.Item.{Item}
 use Rattle.p2p_log.specs.declared.item.Envelope.{Envelope}
 use Rattle.p2p_log.specs.declared.entry.Entry.{Entry}
-use Rattle.p2p_log.specs.declared.entry.Reply.TheVariants as reply
 use Rattle.p2p_log.specs.declared.event.Act.{Act}
 use Rattle.p2p_log.specs.declared.event.Act.TheVariants as act
 use Rattle.p2p_log.specs.Lines.{live_from, line}
 use Rattle.p2p_log_rules.specs.Attempting.{Attempt, DialRules, dial_rules_in, dial_rules_at, socket_of, attempts_of}
-use Rattle.p2p_log_rules.proofs.Attempts.{begun_of, acted_attempts, Heeds, tries, attempts_kept, attempts_acted}
+use Rattle.p2p_log_rules.proofs.AttemptTellings.{tries, attempts_of-kept, attempts_of-late, attempts_of-old}
 use Rattle.p2p_log_rules.proofs.Dialing.{dials_by, dials_of-kept, dials_of-starts}
 use Rattle.p2p_log_rules.specs.Tellings.{last_told}
 use Rattle.p2p_log_rules.specs.Told.{told}
-use Rattle.p2p_log_rules.specs.Facts.{starts, is_up, taken, state_from, with_named, with_begun}
+use Rattle.p2p_log_rules.specs.Facts.{starts, is_up, state_from}
 use Rattle.p2p_log_rules.specs.Dialing.{Pace, pace_at, Dials, new_dials, dials_of}
-use Rattle.p2p_log_rules.proofs.Attempts.{attempts_of-append, attempts_of-late}
 use Rattle.p2p_log_rules.proofs.Channels.{is_up-append, is_up-none}
 use Rattle.p2p_log_rules.proofs.Facts.{state_from-append}
 use Rattle.p2p_net_queues.specs.Tables as table
@@ -93,7 +92,7 @@ pub dialer_unmoved : (configs : List Config) (log : List Entry) (e : Entry) (n :
 dialer_unmoved configs log e n no_start no_dialer waits = record {
   no_start = no_start;
   dials = dials_of-kept configs log e n (none_dials n e.event.act no_start no_dialer);
-  tries = λ k. attempts_of-append configs log e n k ∙ attempts_kept configs log e n k (attempts_of configs log n k) (none_tries n e.event.act no_dialer);
+  tries = λ k. attempts_of-kept configs log e n k (none_tries n e.event.act no_dialer);
   lines = waits;
 }
 
@@ -116,20 +115,16 @@ dialer_new configs n = record {
 gates_is : (configs : List Config) (n : ℕ) (c : Config) → slice_get configs n ≡ Some c → gates_of c ≡ gates_at configs n
 gates_is configs n c is = sym (ap (λ (o : Option Config). elim o [ None ↦ no_gates | Some d ↦ gates_of d ]) is)
 
-or_true : (b : Bool) → (b || true) ≡ true
-or_true true = refl
-or_true false = refl
-
-pub dialer_starts : (configs : List Config) (log : List Entry) (e : Entry) (n : ℕ) (c : Config) (d : Dialing) → DialerStands configs log n d → slice_get configs n ≡ Some c → e.event.act ≡ act.Start n → e.reply ≡ reply.Ok
+pub dialer_starts : (configs : List Config) (log : List Entry) (e : Entry) (n : ℕ) (c : Config) (d : Dialing) → DialerStands configs log n d → slice_get configs n ≡ Some c → e.event.act ≡ act.Start n
     → ((k : ℕ) → line (log ++ e ∷ []) (queue.Attempt n k) ≡ line log (queue.Attempt n k)) → DialerStands configs (log ++ e ∷ []) n (started c e.event.at d)
-dialer_starts configs log e n c d s is acts ok waits =
+dialer_starts configs log e n c d s is acts waits =
     let here : starts n e.event.act ≡ true = ap (starts n) acts ∙ eq-eqb n n refl in
-    let now : dials_of configs (log ++ e ∷ []) n ≡ new_dials e.event.at = dials_of-starts configs log e n acts ok in
+    let now : dials_of configs (log ++ e ∷ []) n ≡ new_dials e.event.at = dials_of-starts configs log e n acts in
     record {
       actor =
           ap (λ g. Some (actor_of g (new_dials e.event.at))) (gates_is configs n c is)
           ∙ actor_now configs (log ++ e ∷ []) n true (new_dials e.event.at) (is_up-append log e n ∙ (ap (λ b. is_up log n || b) here ∙ or_true (is_up log n))) now;
-      attempts = λ k. still_tried configs log e n k d s (attempts_of-append configs log e n k ∙ attempts_kept configs log e n k (attempts_of configs log n k) (ap (tries n) acts)) (waits k);
+      attempts = λ k. still_tried configs log e n k d s (attempts_of-kept configs log e n k (ap (tries n) acts)) (waits k);
     }
 
 -- ---- a step
@@ -177,10 +172,14 @@ handshake_timeout_is configs n = ap (λ (r : DialRules). r.handshake_timeout) (r
 pub private_is : (configs : List Config) (n : ℕ) → (gates_at configs n).allow_private_ips ≡ (dial_rules_at configs n).private
 private_is configs n = ap (λ (r : DialRules). r.private) (rules_are configs n)
 
-with_is : (g : Gates) (o : Option (Attempting Key)) (b : Option Attempt) (name k : ℕ) (l : List (ℕ × RunningAttempt)) (f : ℕ → Option Attempt) (waits : List Envelope) → IsBegun g name o b
-    → ((k == name) ≡ true → waits ≡ []) → AttemptStands g k (table.at l k) (f k) waits → AttemptStands g k (table.at (attempts_with o name l) k) (with_begun b name f k) waits
-with_is g None None name k l f waits new none h = h
-with_is g (Some a) (Some b) name k l f waits new none h =
+with_is : (g : Gates) (o : Option (Attempting Key)) (b : Option Attempt) (name k : ℕ) (l : List (ℕ × RunningAttempt)) (f : ℕ → Option Attempt) (waits : List Envelope) → IsBegun g name o b → f name ≡ None
+    → ((k == name) ≡ true → waits ≡ []) → AttemptStands g k (table.at l k) (f k) waits → AttemptStands g k (table.at (attempts_with o name l) k) (cond (k == name) b (f k)) waits
+with_is g None None name k l f waits new late none h = subst (λ o. AttemptStands g k (table.at l k) o waits) (sym (by (k == name) refl)) h
+  where
+    by : (c : Bool) → (k == name) ≡ c → cond c None (f k) ≡ f k
+    by true is = sym (ap f (eqb-true k name is) ∙ late)
+    by false is = refl
+with_is g (Some a) (Some b) name k l f waits new late none h =
     subst (λ t. AttemptStands g k t (cond (k == name) (Some b) (f k)) waits) (sym (lookup-insert_entry name k (running a) l ∙ ap (λ c. cond c (Some (running a)) (table.at l k)) (same k name))) (by (k == name) refl)
   where
     same : (d l : ℕ) → is_at (nat_cmp d) l ≡ (d == l)
@@ -191,8 +190,8 @@ with_is g (Some a) (Some b) name k l f waits new none h =
         subst (λ j. AttemptStands g j (Some (running a)) (Some b) waits) (sym (eqb-true k name is))
         (subst (AttemptStands g name (Some (running a)) (Some b)) (sym (none is)) (new.0, new.1, new.2))
     by false is = h
-with_is g None (Some b) name k l f waits new none h = absurd new
-with_is g (Some a) None name k l f waits new none h = absurd new
+with_is g None (Some b) name k l f waits new late none h = absurd new
+with_is g (Some a) None name k l f waits new late none h = absurd new
 
 -- nothing waits for an attempt of a later name
 late_waits : (configs : List Config) (log : List Entry) (n : ℕ) (d : Dialing) → DialerStands configs log n d → line log (queue.Attempt n (length log)) ≡ []
@@ -207,22 +206,22 @@ late_waits configs log n d s = by (table.at d.attempts (length log)) (attempts_o
 -- a step of the dialer of a node that has started, which comes to this
 pub dialer_stepped : (configs : List Config) (log : List Entry) (e : Entry) (n : ℕ) (d u : Dialing) (begun : Option (Attempting Key)) (next : Dials) → DialerStands configs log n d → e.event.act ≡ act.Dialer n → is_up log n ≡ true
     → dials_of configs (log ++ e ∷ []) n ≡ next → u.actor ≡ Some (actor_of (gates_at configs n) next)
-    → IsBegun (gates_at configs n) (length log) begun (begun_of (dial_rules_at configs n).timeout e.event.at (taken log e)) → u.attempts ≡ attempts_with begun (length log) d.attempts
+    → IsBegun (gates_at configs n) (length log) begun (attempts_of configs (log ++ e ∷ []) n (length log)) → u.attempts ≡ attempts_with begun (length log) d.attempts
     → ((k : ℕ) → line (log ++ e ∷ []) (queue.Attempt n k) ≡ line log (queue.Attempt n k)) → DialerStands configs (log ++ e ∷ []) n u
 dialer_stepped configs log e n d u begun next s acts up now actor new attempts waits =
-    let what = begun_of (dial_rules_at configs n).timeout e.event.at (taken log e) in
+    let what : Option Attempt = attempts_of configs (log ++ e ∷ []) n (length log) in
     let no_start : starts n e.event.act ≡ false = ap (starts n) acts in
-    let tried : (k : ℕ) → attempts_of configs (log ++ e ∷ []) n k ≡ with_begun what (length log) (attempts_of configs log n) k = λ k.
-    attempts_of-append configs log e n k
-    ∙ (attempts_acted configs log e n k (attempts_of configs log n) (subst (λ a. Heeds (dial_rules_at configs n) n (length log) e.event.at e.event.seed e.reply (taken log e) e.puts a (attempts_of configs log n)) (sym acts) tt)
-    ∙ (ap (λ a. acted_attempts (dial_rules_at configs n) n (length log) e.event.at e.event.seed e.reply (taken log e) e.puts a (attempts_of configs log n) k) acts ∙ ap (λ b. cond b (with_begun what (length log) (attempts_of configs log n) k) (attempts_of configs log n k)) (eq-eqb n n refl)))
-    in
+    let tried : (k : ℕ) → attempts_of configs (log ++ e ∷ []) n k ≡ cond (k == length log) what (attempts_of configs log n k) = λ k. by k (k == length log) refl in
     record {
       actor = actor ∙ actor_now configs (log ++ e ∷ []) n true next (is_up-append log e n ∙ (or_false (is_up log n) (starts n e.event.act) no_start ∙ up)) now;
       attempts = λ k.
           subst (λ l. AttemptStands (gates_at configs n) k (table.at l k) (attempts_of configs (log ++ e ∷ []) n k) (line (log ++ e ∷ []) (queue.Attempt n k))) (sym attempts)
           (subst (AttemptStands (gates_at configs n) k (table.at (attempts_with begun (length log) d.attempts) k) (attempts_of configs (log ++ e ∷ []) n k)) (sym (waits k))
           (subst (λ o. AttemptStands (gates_at configs n) k (table.at (attempts_with begun (length log) d.attempts) k) o (line log (queue.Attempt n k))) (sym (tried k))
-          (with_is (gates_at configs n) begun what (length log) k d.attempts (attempts_of configs log n) (line log (queue.Attempt n k)) new
+          (with_is (gates_at configs n) begun what (length log) k d.attempts (attempts_of configs log n) (line log (queue.Attempt n k)) new (attempts_of-late configs log n (length log) (omega arith))
           (λ is. ap (λ j. line log (queue.Attempt n j)) (eqb-true k (length log) is) ∙ late_waits configs log n d s) (s.attempts k))));
     }
+  where
+    by : (k : ℕ) (b : Bool) → (k == length log) ≡ b → attempts_of configs (log ++ e ∷ []) n k ≡ cond b (attempts_of configs (log ++ e ∷ []) n (length log)) (attempts_of configs log n k)
+    by k true is = ap (attempts_of configs (log ++ e ∷ []) n) (eqb-true k (length log) is)
+    by k false other = attempts_of-old configs log e n n k acts other

@@ -27,7 +27,7 @@ use Rattle.p2p_log.specs.declared.item.Item.TheVariants as item
 use Rattle.p2p_log.specs.declared.end.End.{End}
 use Rattle.p2p_log.specs.declared.entry.Reply.TheVariants as reply
 use Rattle.p2p_log_rules.specs.declared.row.Row.{Row}
-use Rattle.p2p_log_rules.specs.Attempting.{link_of, resolve_by, answered_row}
+use Rattle.p2p_log_rules.specs.Attempting.{link_of, resolve_by, dial_answered_row}
 use Rattle.p2p_log_rules.specs.Rows.{only}
 use Rattle.p2p_net_queues.specs.Rows.{item_ends}
 use Rattle.p2p_net_queues.specs.Tables.{AreBut}
@@ -147,7 +147,7 @@ Resolves (Some a) k n name addresses old new r =
 abbrev pub AnswersDial : Option RunningAttempt → ℕ → ℕ → ℕ → Bool → List (ℕ × RunningAttempt) → List (ℕ × RunningAttempt) → Row → Type 0
 AnswersDial None k n name links old new r = (r ≡ only reply.Gone) × AreBut name None old new
 AnswersDial (Some a) k n name links old new r =
-    (r ≡ answered_row a.actor.address (is_some a.answer) links name n) × AreBut name (Some (answered a.actor.address (is_some a.answer) links k a)) old new
+    (r ≡ dial_answered_row a.actor.address (is_some a.answer) links name n) × AreBut name (Some (answered a.actor.address (is_some a.answer) links k a)) old new
 
 -- that the keys were exchanged over its link, or were not: a put more of the row, where the attempt stands
 abbrev pub Finishes : Option RunningAttempt → ℕ → ℕ → ℕ → Bool → List (ℕ × RunningAttempt) → List (ℕ × RunningAttempt) → Row → Row → Type 0

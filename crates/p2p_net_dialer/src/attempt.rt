@@ -1,7 +1,7 @@
 //! `RunningAttempt`, an attempt of a node's dialer.
 ghost use Rattle.std.specs.Prelude.{◌≡◌, ◌++◌, ◌∷◌, [], IfOk, OnOk, is_some, length, cond, Some, None};
 ghost use Rattle.p2p_log.specs.declared.queue.Queue.TheVariants as queue;
-ghost use Rattle.p2p_log_rules.specs.Attempting.{link_item, link_of, resolve_by, answered_row};
+ghost use Rattle.p2p_log_rules.specs.Attempting.{link_item, link_of, resolve_by, dial_answered_row};
 ghost use Rattle.p2p_gates.specs.AttemptTurns.{attempt_turn};
 ghost use Rattle.p2p_net_dialer.specs.Attempts.{is_name, running, took_names, told_under, told_in, link_told, resolved, answered, released_key, ready_of, ended, tried, after_turn};
 
@@ -231,7 +231,7 @@ impl RunningAttempt {
     /// `Err` only where there is no memory. Some of it may then be told, and its node goes no further.
     pub fn answer_dial(&mut self, turn: Turn, attempt: u64, links: bool) -> Result<Row, AllocError>
         ensures row { IfOk result (λ r.
-            r ≡ answered_row self.old.actor.address (is_some self.old.answer) links attempt turn.node) }
+            r ≡ dial_answered_row self.old.actor.address (is_some self.old.answer) links attempt turn.node) }
         ensures after { OnOk result (
             self.new ≡ answered self.old.actor.address (is_some self.old.answer) links turn.entry self.old) }
     {

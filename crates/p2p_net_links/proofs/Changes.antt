@@ -1,10 +1,10 @@
 -- The links after one more entry.
 use Rattle.std.proofs.Common.{◌≡◌, ℕ, ◌+◌, Bool, true, false, cond, List, [], ◌∷◌, ◌++◌, length, drop, refl, ap, sym, ◌∙◌, arith, append_assoc, append-nil, subst, Option, Some, None}
-use Rattle.std.specs.Prelude.{◌==◌, filter, map, ◌&&◌, is_some}
+use Rattle.std.specs.Prelude.{◌==◌, filter, map, ◌&&◌, ◌||◌, is_some}
+use Rattle.std.specs.List.{list_any}
 use Rattle.std.specs.BTreeMap.{is_at, insert_entry}
 use Rattle.std.specs.Ordering.{nat_cmp}
 use Rattle.std.proofs.lemmas.Bool.Decides.{nat_tests}
-use Rattle.std.proofs.lemmas.Option.{same_Some}
 use Rattle.p2p_log.specs.declared.config.Config.{Config}
 use Rattle.p2p_log.specs.declared.queue.Queue.{Queue}
 use Rattle.p2p_log.specs.declared.queue.Queue.TheVariants as queue
@@ -25,12 +25,17 @@ use Rattle.p2p_log_rules.specs.declared.row.Opening.{Opening}
 use Rattle.p2p_log_rules.specs.Dropping.{is_dropped}
 use Rattle.p2p_log_rules.specs.Effect.{ping_puts}
 use Rattle.p2p_log_rules.specs.Facts.{state_from, with_named}
-use Rattle.p2p_log_rules.specs.Links.{with_opened, without_finished, acted_openings, openings_by, openings_of}
-use Rattle.p2p_log_rules.specs.Dialed.{dialed_by, dialer_of}
+use Rattle.p2p_log_rules.specs.Links.{openings_of}
+use Rattle.p2p_log_rules.specs.Dialed.{dialer_of}
 use Rattle.p2p_log_rules.specs.Pings.{ping_frame}
-use Rattle.p2p_log_rules.specs.Told.{told}
-use Rattle.p2p_log_rules.proofs.Connections.{dialer_of-append, dialer_of-unmade}
-use Rattle.p2p_log_rules.proofs.Links.{openings_of-append, openings_of-none}
+use Rattle.p2p_log_rules.specs.Tellings.{Telling}
+use Rattle.p2p_log_rules.specs.Tellings as telling
+use Rattle.p2p_log_rules.specs.Told.{done_tells, link_tells, tells, told}
+use Rattle.p2p_log_rules.proofs.Dialed.{link_kinds, dialer_of-kept, dialer_of-linked}
+use Rattle.p2p_log_rules.proofs.Families.{kind, kinds_of, has, are_apart}
+use Rattle.p2p_log_rules.proofs.Links.{exchange_kinds, openings_of-kept, openings_of-linked, openings_of-finished, openings_of-none}
+use Rattle.p2p_log_rules.proofs.LinkTells.{weaker, tells_act, TellsNone, apart_none}
+use Rattle.p2p_log_rules.proofs.Tellings.{or_left}
 use Rattle.p2p_net_queues.specs.Tables.{at, waiting, pushed_at, popped_at}
 use Rattle.p2p_net_queues.proofs.Holding.{longer}
 use Rattle.p2p_net_queues.proofs.Tables.{waiting-pushed_at, waiting-popped_at, at-inserted}
@@ -84,133 +89,93 @@ pub dialers_new : (k : ℕ) → at no_links.dialers k ≡ dialer_of [] k
 unfolding told state_from
 dialers_new k = refl
 
--- an entry makes no link
-abbrev pub DialsNone : Entry → Type 0
-DialsNone e = dialed_by e.event.act e.reply e.puts ≡ None
+-- ---- an entry that leaves alone who dialed, and between whom keys are exchanged
 
-pub dialers_kept : (log : List Entry) (e : Entry) (dialers : List (ℕ × ℕ)) → ((k : ℕ) → at dialers k ≡ dialer_of log k) → DialsNone e → (k : ℕ) → at dialers k ≡ dialer_of (log ++ e ∷ []) k
-dialers_kept log e dialers is none k = is k ∙ sym (dialer_of-unmade log e none k)
-
--- ---- between whom keys are exchanged, by the log
-
--- no links stand for no log
-pub openings_new : (k : ℕ) → at no_links.openings k ≡ openings_of [] k
-openings_new k = sym (openings_of-none k)
-
--- an entry makes no link, and leaves them alone
+-- it tells of none
 abbrev pub OpensNone : List Entry → Entry → Type 0
-OpensNone log e = DialsNone e × ((k : ℕ) → openings_by log e (openings_of log) k ≡ openings_of log k)
+OpensNone log e = TellsNone (told log) log e exchange_kinds
 
--- by its act: whether that neither makes a link over which keys are exchanged nor ends such an exchange
-abbrev pub opens_none : Act → Bool
-opens_none (act.Connect e from n to) = false
-opens_none (act.Finish link ok) = false
-opens_none _ = true
+-- it makes no link
+abbrev pub DialsNone : List Entry → Entry → Type 0
+DialsNone log e = TellsNone (told log) log e link_kinds
 
-unmoved : (name k : ℕ) (r : Reply) (puts : List (Queue × Item)) (a : Act) (openings : ℕ → Option Opening) → opens_none a ≡ true
-    → acted_openings name r puts a openings k ≡ openings k
-unmoved name k r puts (act.Connect e from n to) openings h = cc
-unmoved name k r puts (act.Finish link ok) openings h = cc
-unmoved name k r puts _ openings h = refl
+pub dials_less : (log : List Entry) (e : Entry) → OpensNone log e → DialsNone log e
+dials_less log e none = weaker (λ t. has exchange_kinds (kind t)) (λ t. has link_kinds (kind t)) less (tells (told log) log e) none
+  where
+    less : (t : Telling) → has exchange_kinds (kind t) ≡ false → has link_kinds (kind t) ≡ false
+    less t none = ap (λ b. b || false) (or_left (10 == kind t) ((21 == kind t) || false) none)
 
-undialed : (a : Act) (r : Reply) (puts : List (Queue × Item)) → opens_none a ≡ true → dialed_by a r puts ≡ None
-undialed (act.Connect e from n to) r puts h = absurd (cc)
-undialed _ r puts h = refl
-
-pub openings_unmoved : (log : List Entry) (e : Entry) → opens_none e.event.act ≡ true → OpensNone log e
-openings_unmoved log e h = (undialed e.event.act e.reply e.puts h, λ k. unmoved (length log) k e.reply e.puts e.event.act (openings_of log) h)
+-- by its act
+pub openings_unmoved : (log : List Entry) (e : Entry) → are_apart (kinds_of e.event.act) exchange_kinds ≡ true → OpensNone log e
+openings_unmoved log e apart = apart_none (told log) log e exchange_kinds apart
 
 -- or by its reply, whatever its act: whether that says that it was done
 abbrev pub is_ok_reply : Reply → Bool
 is_ok_reply reply.Ok = true
 is_ok_reply _ = false
 
-unopened : (name k : ℕ) (o : Opening) (r : Reply) (puts : List (Queue × Item)) (openings : ℕ → Option Opening) → is_ok_reply r ≡ false → with_opened name o r puts openings k ≡ openings k
-unopened name k o reply.Ok puts openings h = cc
-unopened name k o _ puts openings h = refl
-
-unfinished : (link k : ℕ) (r : Reply) (openings : ℕ → Option Opening) → is_ok_reply r ≡ false → without_finished link r openings k ≡ openings k
-unfinished link k reply.Ok openings h = cc
-unfinished link k _ openings h = refl
-
-unanswered : (name k : ℕ) (r : Reply) (puts : List (Queue × Item)) (a : Act) (openings : ℕ → Option Opening) → is_ok_reply r ≡ false
-    → acted_openings name r puts a openings k ≡ openings k
-unanswered name k r puts (act.Connect e from n to) openings h = unopened name k (record { node = n; attempt = e; to = to }) r puts openings h
-unanswered name k r puts (act.Finish link ok) openings h = unfinished link k r openings h
-unanswered name k r puts _ openings h = refl
-
-undone : (a : Act) (r : Reply) (puts : List (Queue × Item)) → is_ok_reply r ≡ false → dialed_by a r puts ≡ None
-undone (act.Connect e from n to) reply.Ok puts h = absurd (cc)
-undone (act.Connect e from n to) _ puts h = refl
-undone _ r puts h = refl
+undone : (about : Telling → Bool) (r : Reply) (us : List Telling) → is_ok_reply r ≡ false → list_any about (done_tells r us) ≡ false
+undone about reply.Ok us h = cc
+undone about _ us h = refl
 
 pub openings_unanswered : (log : List Entry) (e : Entry) → is_ok_reply e.reply ≡ false → OpensNone log e
-openings_unanswered log e h = (undone e.event.act e.reply e.puts h, λ k. unanswered (length log) k e.reply e.puts e.event.act (openings_of log) h)
-
--- between whom keys are exchanged over the link of this act, where it makes one
-abbrev pub linked_by : Act → Option Opening
-linked_by (act.Connect e from n to) = Some (record { node = n; attempt = e; to = to })
-linked_by _ = None
+openings_unanswered log e h = by e.event.act refl
+  where
+    by : (a : Act) → e.event.act ≡ a → OpensNone log e
+    by (act.Connect d from n to) acts =
+        ap (list_any (λ t. has exchange_kinds (kind t))) (tells_act (told log) log e (act.Connect d from n to) acts)
+        ∙ undone (λ t. has exchange_kinds (kind t)) e.reply (telling.dial_answered n d (length log) ∷ link_tells n d (length log) to e.puts) h
+    by (act.Finish link ok) acts =
+        ap (list_any (λ t. has exchange_kinds (kind t))) (tells_act (told log) log e (act.Finish link ok) acts) ∙ undone (λ t. has exchange_kinds (kind t)) e.reply (telling.exchange_ended link ∷ []) h
+    by a acts = openings_unmoved log e (ap (λ b. are_apart (kinds_of b) exchange_kinds) acts)
 
 -- or by its puts: a dial that was answered, but not with a link
-one_put : (name k : ℕ) (r : Reply) (told : Queue × Item) (a : Act) (openings : ℕ → Option Opening) (o : Opening) → linked_by a ≡ Some o
-    → acted_openings name r (told ∷ []) a openings k ≡ openings k
-one_put name k reply.Ok told (act.Connect e from n to) openings o h = refl
-one_put name k _ told (act.Connect e from n to) openings o h = refl
-one_put name k r told _ openings o h = cc
-
-pub openings_linkless : (log : List Entry) (e : Entry) (o : Opening) (told : Queue × Item) → linked_by e.event.act ≡ Some o → e.puts ≡ told ∷ [] → OpensNone log e
-openings_linkless log e o told dials one = (
-  ap (dialed_by e.event.act e.reply) one ∙ lone e.event.act e.reply,
-  λ k. ap (λ puts. acted_openings (length log) e.reply puts e.event.act (openings_of log) k) one ∙ one_put (length log) k e.reply told e.event.act (openings_of log) o dials,
-)
+pub openings_linkless : (log : List Entry) (e : Entry) (d n to : ℕ) (from : _) (one : Queue × Item) → e.event.act ≡ act.Connect d from n to → e.puts ≡ one ∷ [] → OpensNone log e
+openings_linkless log e d n to from one acts puts =
+    ap (list_any (λ t. has exchange_kinds (kind t))) (tells_act (told log) log e (act.Connect d from n to) acts)
+    ∙ (ap (λ p. list_any (λ t. has exchange_kinds (kind t)) (done_tells e.reply (telling.dial_answered n d (length log) ∷ link_tells n d (length log) to p))) puts ∙ lone e.reply)
   where
-    lone : (a : Act) (r : Reply) → dialed_by a r (told ∷ []) ≡ None
-    lone (act.Connect d from n to) reply.Ok = refl
-    lone (act.Connect d from n to) _ = refl
-    lone _ r = refl
+    lone : (r : Reply) → list_any (λ t. has exchange_kinds (kind t)) (done_tells r (telling.dial_answered n d (length log) ∷ [])) ≡ false
+    lone reply.Ok = refl
+    lone _ = refl
 
--- an entry changes them: a dial that was answered with a link
-two_puts : (name k : ℕ) (told arrival : Queue × Item) (rest : List (Queue × Item)) (a : Act) (openings : ℕ → Option Opening) (o : Opening) → linked_by a ≡ Some o
-    → acted_openings name reply.Ok (told ∷ arrival ∷ rest) a openings k ≡ with_named name (Some o) openings k
-two_puts name k told arrival rest (act.Connect e from n to) openings o h = ap (λ p. with_named name p openings k) h
-two_puts name k told arrival rest _ openings o h = cc
+-- ---- one that changes them
 
--- who dialed and who is dialed over the link that an entry makes, and it is the only one that begins
+-- who dialed and who is dialed over the link that it makes, and that is the only one that begins
 pub record Opens (log : List Entry) (e : Entry) (o : Opening) : Type 0 where
-  pub dialer : dialed_by e.event.act e.reply e.puts ≡ Some o.node
+  pub dialers : (k : ℕ) → dialer_of (log ++ e ∷ []) k ≡ with_named (length log) (Some o.node) (dialer_of log) k
   pub openings : (k : ℕ) → openings_of (log ++ e ∷ []) k ≡ with_named (length log) (Some o) (openings_of log) k
 
-pub openings_opened : (log : List Entry) (e : Entry) (o : Opening) (told arrival : Queue × Item) (rest : List (Queue × Item)) → linked_by e.event.act ≡ Some o → e.reply ≡ reply.Ok
-    → e.puts ≡ told ∷ arrival ∷ rest → Opens log e o
-openings_opened log e o told arrival rest dials answered two = record {
-  dialer = ap (dialed_by e.event.act e.reply) two ∙ (ap (λ r. dialed_by e.event.act r (told ∷ arrival ∷ rest)) answered ∙ by e.event.act dials);
-  openings = λ k.
-      openings_of-append log e k
-      ∙ (ap (λ r. acted_openings (length log) r e.puts e.event.act (openings_of log) k) answered
-      ∙ (ap (λ puts. acted_openings (length log) reply.Ok puts e.event.act (openings_of log) k) two ∙ two_puts (length log) k told arrival rest e.event.act (openings_of log) o dials));
+pub openings_opened : (log : List Entry) (e : Entry) (o : Opening) (from : _) (one two : Queue × Item) (rest : List (Queue × Item)) → e.event.act ≡ act.Connect o.attempt from o.node o.to → e.reply ≡ reply.Ok
+    → e.puts ≡ one ∷ two ∷ rest → Opens log e o
+openings_opened log e o from one two rest acts answered puts = record {
+  dialers = dialer_of-linked log e o.attempt o.node o.to from one two rest acts answered puts;
+  openings = openings_of-linked log e o.attempt o.node o.to from one two rest acts answered puts;
 }
-  where
-    by : (a : Act) → linked_by a ≡ Some o → dialed_by a reply.Ok (told ∷ arrival ∷ rest) ≡ Some o.node
-    by (act.Connect d from n to) h = let same = same_Some (record { node = n; attempt = d; to = to }) o h in ap (λ (p : Opening). Some p.node) same
-    by _ h = absurd (cc)
 
--- or the end of an exchange
-pub openings_finished : (log : List Entry) (e : Entry) (link : ℕ) (ok : Bool) → e.event.act ≡ act.Finish link ok → e.reply ≡ reply.Ok
-    → DialsNone e × ((k : ℕ) → openings_of (log ++ e ∷ []) k ≡ with_named link None (openings_of log) k)
-openings_finished log e link ok is answered = (
-  ap (λ a. dialed_by a e.reply e.puts) is,
-  λ k.
-      openings_of-append log e k
-      ∙ (ap (λ a. acted_openings (length log) e.reply e.puts a (openings_of log) k) is ∙ ap (λ r. without_finished link r (openings_of log) k) answered),
-)
+-- an exchange ends
+pub record Finishes (log : List Entry) (e : Entry) (link : ℕ) : Type 0 where
+  pub dials : DialsNone log e
+  pub openings : (k : ℕ) → openings_of (log ++ e ∷ []) k ≡ with_named link None (openings_of log) k
+
+pub openings_finished : (log : List Entry) (e : Entry) (link : ℕ) (ok : Bool) → e.event.act ≡ act.Finish link ok → e.reply ≡ reply.Ok → Finishes log e link
+openings_finished log e link ok acts answered = record {
+  dials = apart_none (told log) log e link_kinds (ap (λ a. are_apart (kinds_of a) link_kinds) acts);
+  openings = openings_of-finished log e link ok acts answered;
+}
 
 -- ---- and by the links
 
+-- no links stand for no log
+pub openings_new : (k : ℕ) → at no_links.openings k ≡ openings_of [] k
+openings_new k = sym (openings_of-none k)
+
+pub dialers_kept : (log : List Entry) (e : Entry) (dialers : List (ℕ × ℕ)) → ((k : ℕ) → at dialers k ≡ dialer_of log k) → DialsNone log e → (k : ℕ) → at dialers k ≡ dialer_of (log ++ e ∷ []) k
+dialers_kept log e dialers is none k = is k ∙ sym (dialer_of-kept log e none k)
+
 -- an entry that leaves these alone
-pub openings_kept : (log : List Entry) (e : Entry) (openings : List (ℕ × Opening)) → ((k : ℕ) → at openings k ≡ openings_of log k)
-    → ((k : ℕ) → openings_by log e (openings_of log) k ≡ openings_of log k) → (k : ℕ) → at openings k ≡ openings_of (log ++ e ∷ []) k
-openings_kept log e openings is same k = is k ∙ (sym (same k) ∙ sym (openings_of-append log e k))
+pub openings_kept : (log : List Entry) (e : Entry) (openings : List (ℕ × Opening)) → ((k : ℕ) → at openings k ≡ openings_of log k) → OpensNone log e → (k : ℕ) → at openings k ≡ openings_of (log ++ e ∷ []) k
+openings_kept log e openings is none k = is k ∙ sym (openings_of-kept log e none k)
 
 -- another of this name, or none any more
 named : (name k : ℕ) (o : Option Opening) (openings : List (ℕ × Opening)) (before : ℕ → Option Opening) → ((j : ℕ) → at openings j ≡ before j)
@@ -231,8 +196,8 @@ pub links_frame : (configs : List Config) (log : List Entry) (e : Entry) (l : Li
     → OpensNone log e → DropsNone log e → LinksStand configs (log ++ e ∷ []) l
 links_frame configs log e l st lines same none = record {
   waits = λ s link. st.waits s link ∙ sym (lines s link);
-  dialers = dialers_kept log e l.dialers st.dialers same.0;
-  openings = openings_kept log e l.openings st.openings same.1;
+  dialers = dialers_kept log e l.dialers st.dialers (dials_less log e same);
+  openings = openings_kept log e l.openings st.openings same;
   dropped = λ link s. st.dropped link s ∙ sym (is_dropped-kept log e none link s);
 }
 
@@ -259,8 +224,8 @@ pub with_way_kept : (configs : List Config) (log : List Entry) (e : Entry) (l : 
     → ((t : Side) (j : ℕ) → waiting (way_of (with_way l s w) t) j ≡ line (log ++ e ∷ []) (queue.Link j t)) → LinksStand configs (log ++ e ∷ []) (with_way l s w)
 with_way_kept configs log e l s w st same none now = record {
   waits = now;
-  dialers = λ k. ap (λ (m : List (ℕ × ℕ)). at m k) (same_dialers l s w) ∙ dialers_kept log e l.dialers st.dialers same.0 k;
-  openings = λ k. ap (λ (m : List (ℕ × Opening)). at m k) (same_openings l s w) ∙ openings_kept log e l.openings st.openings same.1 k;
+  dialers = λ k. ap (λ (m : List (ℕ × ℕ)). at m k) (same_dialers l s w) ∙ dialers_kept log e l.dialers st.dialers (dials_less log e same) k;
+  openings = λ k. ap (λ (m : List (ℕ × Opening)). at m k) (same_openings l s w) ∙ openings_kept log e l.openings st.openings same k;
   dropped = λ link t. ap (λ (m : List (ℕ × Unit {0})). is_some (at m link)) (same_dropped l s t w) ∙ (st.dropped link t ∙ sym (is_dropped-kept log e none link t));
 }
 
@@ -285,20 +250,20 @@ pub links_opened : (configs : List Config) (log : List Entry) (e : Entry) (l : L
     → Opens log e o → DropsNone log e → LinksStand configs (log ++ e ∷ []) (opened_with (length log) o l)
 links_opened configs log e l o st lines opened none =
     with_openings configs log e l (insert_entry nat_cmp l.dialers (length log) o.node) (insert_entry nat_cmp l.openings (length log) o) st lines
-    (λ k. at-inserted (length log) k o.node l.dialers ∙ (ap (λ v. cond (k == length log) (Some o.node) v) (st.dialers k) ∙ sym (dialer_of-append log e o.node opened.dialer k)))
+    (λ k. at-inserted (length log) k o.node l.dialers ∙ (ap (λ v. cond (k == length log) (Some o.node) v) (st.dialers k) ∙ sym (opened.dialers k)))
     (λ k. at-inserted (length log) k o l.openings ∙ (named (length log) k (Some o) l.openings (openings_of log) st.openings ∙ sym (opened.openings k)))
     none
 
 -- an exchange of keys has ended
 pub links_finished : (configs : List Config) (log : List Entry) (e : Entry) (l ls : Links) (link : ℕ) → LinksStand configs log l
     → ((s : Side) (j : ℕ) → line (log ++ e ∷ []) (queue.Link j s) ≡ line log (queue.Link j s))
-    → DialsNone e × ((k : ℕ) → openings_of (log ++ e ∷ []) k ≡ with_named link None (openings_of log) k)
+    → Finishes log e link
     → ((k : ℕ) → at ls.openings k ≡ cond (k == link) None (at l.openings k)) → ls ≡ record l { openings = ls.openings }
     → DropsNone log e → LinksStand configs (log ++ e ∷ []) ls
 links_finished configs log e l ls link st lines finished out rest none =
     subst (LinksStand configs (log ++ e ∷ [])) (sym rest)
-    (with_openings configs log e l l.dialers ls.openings st lines (dialers_kept log e l.dialers st.dialers finished.0)
-    (λ k. out k ∙ (named link k None l.openings (openings_of log) st.openings ∙ sym (finished.1 k))) none)
+    (with_openings configs log e l l.dialers ls.openings st lines (dialers_kept log e l.dialers st.dialers finished.dials)
+    (λ k. out k ∙ (named link k None l.openings (openings_of log) st.openings ∙ sym (finished.openings k))) none)
 
 -- a line without its first, by its code
 first_gone : (log : List Entry) (p q : Queue) (x : Envelope) (rest : List Envelope) (b : Bool) → same_queue p q ≡ b → (b ≡ true → line log q ≡ line log p) → line log p ≡ x ∷ rest → cond b (drop 1 (line log q)) (line log q) ≡ cond b rest (line log q)

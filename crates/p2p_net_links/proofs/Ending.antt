@@ -27,7 +27,9 @@ use Rattle.p2p_net_links.specs.Dropping.{dropped_of, with_dropped, is_dropped_at
 use Rattle.p2p_net_links.specs.Links.{way_of, with_way}
 use Rattle.p2p_net_links.specs.Stands.{LinksStand}
 use Rattle.p2p_net_links.specs.declared.links.Links.{Links}
-use Rattle.p2p_net_links.proofs.Changes.{same_link, same_side, opens_none, OpensNone, openings_unmoved, dialers_kept, openings_kept}
+use Rattle.p2p_net_links.proofs.Changes.{same_link, same_side, OpensNone, dials_less, openings_unmoved, dialers_kept, openings_kept}
+use Rattle.p2p_log_rules.proofs.Families.{kinds_of, are_apart}
+use Rattle.p2p_log_rules.proofs.Links.{exchange_kinds}
 use Rattle.p2p_log_rules.proofs.Dropping.{drops_none, drops_of-none, is_end_at, is_dropped-append}
 
 -- an entry drops the end of this link that writes in this direction: nothing is in flight towards it after it, and what is in flight
@@ -38,7 +40,7 @@ pub record DropsEnd (log : List Entry) (e : Entry) (link : ℕ) (s : Side) : Typ
   pub kept : (t : Side) (j : ℕ) → same_queue (queue.Link link (other_side s)) (queue.Link j t) ≡ false → line (log ++ e ∷ []) (queue.Link j t) ≡ line log (queue.Link j t)
 
 -- what drops an end makes no link, and ends no exchange of keys
-opens_by : (one : LinkEnd) (ends : List LinkEnd) (a : Act) → (drops_none a ≡ true → ends ≡ []) → ends ≡ one ∷ [] → opens_none a ≡ true
+opens_by : (one : LinkEnd) (ends : List LinkEnd) (a : Act) → (drops_none a ≡ true → ends ≡ []) → ends ≡ one ∷ [] → are_apart (kinds_of a) exchange_kinds ≡ true
 opens_by one ends (act.Connect d from n to) none some = let h : ends ≡ [] = none refl in cc
 opens_by one ends (act.Finish link ok) none some = let h : ends ≡ [] = none refl in cc
 opens_by one ends _ none some = refl
@@ -136,8 +138,8 @@ module _ (configs : List Config) (log : List Entry) (e : Entry) (l : Links) (lin
       let same = drops_opens_none log e (link, s) d.drops in
       record {
         waits = dropped_line w cleared;
-        dialers = λ k. ap (λ (m : List (ℕ × ℕ)). at m k) (dropped_dialers l s link w) ∙ dialers_kept log e l.dialers st.dialers same.0 k;
-        openings = λ k. ap (λ (m : List (ℕ × Opening)). at m k) (dropped_openings l s link w) ∙ openings_kept log e l.openings st.openings same.1 k;
+        dialers = λ k. ap (λ (m : List (ℕ × ℕ)). at m k) (dropped_dialers l s link w) ∙ dialers_kept log e l.dialers st.dialers (dials_less log e same) k;
+        openings = λ k. ap (λ (m : List (ℕ × Opening)). at m k) (dropped_openings l s link w) ∙ openings_kept log e l.openings st.openings same k;
         dropped = λ j t.
             noted l s t link j w ∙ (ap (λ b. ((j == link) && is_side t s) || b) (st.dropped j t) ∙ (or_swap ((j == link) && is_side t s) (is_dropped log j t) ∙ sym (is_dropped-one log e (link, s) d.drops j t)));
       }

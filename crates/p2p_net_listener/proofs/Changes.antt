@@ -26,73 +26,27 @@ use Rattle.p2p_log.specs.declared.event.Act.TheVariants as act
 use Rattle.p2p_log.specs.Lines.{name_of, live_from, line}
 use Rattle.p2p_log_rules.specs.Attempting.{dial_rules_at}
 use Rattle.p2p_log_rules.specs.Facts.{state_from, taken, with_named}
-use Rattle.p2p_log_rules.specs.Handshakes.{steps_listener, steps_handshake, with_admitted, without_name, ends_handshake, unless_ended, acted_handshakes, handshakes_by, handshakes_of, is_handshaking, has_taken, peer_at}
-use Rattle.p2p_log_rules.specs.Links.{unless_dropped, listened, ends_by, listening_ends_of}
+use Rattle.p2p_log_rules.specs.Handshakes.{ends_handshake, handshakes_of, is_handshaking, has_taken, peer_at}
+use Rattle.p2p_log_rules.specs.Links.{listening_ends_of}
 use Rattle.p2p_log_rules.specs.Standing.{standing}
-use Rattle.p2p_log_rules.specs.Told.{told}
-use Rattle.p2p_log_rules.specs.Listening.{gate_rules_at, most_handshakes_at, took_known, known_of}
-use Rattle.p2p_log_rules.proofs.Listening.{IsJudged, known_of-append, known_of-kept}
+use Rattle.p2p_log_rules.specs.Told.{tells, told}
+use Rattle.p2p_log_rules.specs.Listening.{gate_rules_at, most_handshakes_at, known_of}
+use Rattle.p2p_log_rules.proofs.Listening.{hearing_kinds, took_known, IsJudged, known_of-apart, known_of-listened}
 use Rattle.p2p_log_rules.specs.declared.row.ListeningEnd.{ListeningEnd}
 use Rattle.p2p_log_rules.specs.declared.row.ListeningEnd.TheVariants as listening
 use Rattle.p2p_log_rules.proofs.Facts.{state_from-append}
-use Rattle.p2p_log_rules.proofs.Handshakes.{handshakes_of-append, handshaking_early, one_less}
-use Rattle.p2p_log_rules.proofs.Links.{listening_ends_of-append}
+use Rattle.p2p_log_rules.proofs.Families.{kinds_of, are_apart}
+use Rattle.p2p_log_rules.proofs.Handshakes.{without_name, handshakes_of-shaken, handshaking_early, one_less}
+use Rattle.p2p_log_rules.proofs.Links.{listening_ends_of-shaken}
 use Rattle.p2p_net_queues.specs.Tables as table
 use Rattle.p2p_net_queues.specs.Tables.{AreBut}
 use Rattle.p2p_net_queues.proofs.Tables.{at-inserted}
 use Rattle.p2p_net_listener.specs.Listening.{IsNew, arrived, EndsAre}
-use Rattle.p2p_net_listener.specs.Handshaking.{one_freed, freed_if}
-use Rattle.p2p_net_listener.specs.Stands.{arrival_item, facts_of, HandshakeIs, ListenerStands, is_of_listener, TellsNothing, LeavesListener}
+use Rattle.p2p_net_listener.specs.Handshaking.{one_freed, freed_if, ends_left}
+use Rattle.p2p_net_listener.specs.Stands.{arrival_item, facts_of, HandshakeIs, ListenerStands, TellsNothing, LeavesListener}
 use Rattle.p2p_net_listener.specs.declared.listening.Listening.{Listening}
-use Rattle.p2p_net_listener.proofs.Ends.{listened_ends, dropped_ends}
+use Rattle.p2p_net_listener.proofs.Leaving.{of_steps, unstepped_known, unstepped_handshakes, unstepped_tells, listener_tells}
 use Rattle.p2p_net_listener.proofs.Handshakes.{other_tells, untold_kept, facts_after, facts-stepped, handshakes_kept, handshakes_changed, handshaking-others, handshaking-itself}
-
--- ---- what the log tells, after one more entry
-
--- a step that took these, by which an arrival was told what the rules say
-known_after : (configs : List Config) (log : List Entry) (e : Entry) (n : ℕ) (items : List Item) → steps_listener n e.event.act ≡ true → taken log e ≡ items
-    → IsJudged (gate_rules_at configs n) (known_of configs log n) e.event.at e.reply items → known_of configs (log ++ e ∷ []) n ≡ took_known (gate_rules_at configs n) e.event.at items (known_of configs log n)
-known_after configs log e n items steps took judged =
-    known_of-append configs log e n (λ h. subst (IsJudged (gate_rules_at configs n) (known_of configs log n) e.event.at e.reply) (sym took) judged)
-    ∙ (ap (λ c. cond c (took_known (gate_rules_at configs n) e.event.at (taken log e) (known_of configs log n)) (known_of configs log n)) steps
-    ∙ ap (λ l. took_known (gate_rules_at configs n) e.event.at l (known_of configs log n)) took)
-
--- whom a step admits
-acted-admitted : (n name : ℕ) (r : Reply) (items : List Item) (a : Act) (names : List ℕ) → steps_listener n a ≡ true → acted_handshakes n name r items a names ≡ with_admitted name r names
-acted-admitted n name r items (act.Listener m) names h = ap (λ b. cond b (with_admitted name r names) names) h
-acted-admitted n name r items _ names h = cc
-
-handshakes-admitted : (log : List Entry) (e : Entry) (n : ℕ) → steps_listener n e.event.act ≡ true → handshakes_of (log ++ e ∷ []) n ≡ with_admitted (length log) e.reply (handshakes_of log n)
-handshakes-admitted log e n steps = handshakes_of-append log e n ∙ acted-admitted n (length log) e.reply (taken log e) e.event.act (handshakes_of log n) steps
-
--- an act of another begins and ends none
-acted-unmoved : (n name : ℕ) (r : Reply) (items : List Item) (a : Act) (names : List ℕ) → is_of_listener n a ≡ false → acted_handshakes n name r items a names ≡ names
-acted-unmoved n name r items (act.Listener m) names h = ap (λ b. cond b (with_admitted name r names) names) h
-acted-unmoved n name r items (act.Handshake e m) names h = ap (λ b. cond b (unless_ended (ends_handshake r items) e names) names) h
-acted-unmoved n name r items _ names h = refl
-
-pub handshakes_unmoved : (log : List Entry) (e : Entry) (n : ℕ) → is_of_listener n e.event.act ≡ false → handshakes_by n log e (handshakes_of log n) ≡ handshakes_of log n
-handshakes_unmoved log e n none = acted-unmoved n (length log) e.reply (taken log e) e.event.act (handshakes_of log n) none
-
-steps_none : (n : ℕ) (a : Act) → is_of_listener n a ≡ false → steps_listener n a ≡ false
-steps_none n (act.Listener m) h = h
-steps_none n _ h = refl
-
--- and tells no handshake anything
-pub unmoved_tells : (log : List Entry) (e : Entry) (n : ℕ) → is_of_listener n e.event.act ≡ false → (k : ℕ) → TellsNothing log e n k
-unmoved_tells log e n none k = other_tells log e n k (by e.event.act none)
-  where
-    by : (a : Act) → is_of_listener n a ≡ false → steps_handshake n k a ≡ false
-    by (act.Handshake h m) none = ap (λ b. b && (h == k)) none
-    by _ none = refl
-
--- nor does a step of the listener
-pub listener_tells : (log : List Entry) (e : Entry) (n : ℕ) → steps_listener n e.event.act ≡ true → (k : ℕ) → TellsNothing log e n k
-listener_tells log e n steps k = other_tells log e n k (by e.event.act steps)
-  where
-    by : (a : Act) → steps_listener n a ≡ true → steps_handshake n k a ≡ false
-    by (act.Handshake h m) steps = cc
-    by _ steps = refl
 
 -- ---- a listener that was made
 
@@ -142,23 +96,12 @@ listener_frame configs log e n l s left = record {
   items = ap (map (λ (x : Envelope). x.item)) left.arrivals ∙ s.items;
   rules = s.rules;
   known = subst (StandsFor l.actor) (sym left.known) s.known;
-  places = s.places ∙ ap (λ (names : List ℕ). record { held = length names; max = most_handshakes_at configs n }) (sym (handshakes_of-append log e n ∙ left.handshakes));
+  places = s.places ∙ ap (λ (names : List ℕ). record { held = length names; max = most_handshakes_at configs n }) (sym left.handshakes);
   works = s.works;
   timeout = s.timeout;
   handshakes = handshakes_kept configs log e n l.handshakes left.handshakes left.tells s.handshakes;
   untold = untold_kept log e n (λ k past. left.tells k) s.untold;
-  ends = λ k. s.ends k ∙ sym (listening_ends_of-append log e n k ∙ left.ends k);
-}
-
--- as one of another act
-pub listener_unmoved : (configs : List Config) (log : List Entry) (e : Entry) (n : ℕ) → is_of_listener n e.event.act ≡ false → line (log ++ e ∷ []) (queue.Arrivals n) ≡ line log (queue.Arrivals n)
-    → ((k : ℕ) → ends_by n log e (listening_ends_of log n) k ≡ listening_ends_of log n k) → LeavesListener configs log e n
-listener_unmoved configs log e n none same ends = record {
-  known = known_of-kept configs log e n (steps_none n e.event.act none);
-  handshakes = handshakes_unmoved log e n none;
-  arrivals = same;
-  tells = unmoved_tells log e n none;
-  ends = ends;
+  ends = λ k. s.ends k ∙ sym (left.ends k);
 }
 
 -- the same listener, where its tables give the same handshakes and the same ends
@@ -194,10 +137,10 @@ listener_finished configs log e n l u s left rest same = listener_untouched conf
 -- ---- one at which a peer arrives
 
 pub listener_arrived : (configs : List Config) (log : List Entry) (e : Entry) (n k place : ℕ) (from : SocketAddr) (key : Key) (l : Listening) → ListenerStands configs log n l
-    → is_of_listener n e.event.act ≡ false
+    → list_any (of_steps n) (tells (told log) log e) ≡ false
     → line (log ++ e ∷ []) (queue.Arrivals n)
     ≡ line log (queue.Arrivals n) ++ record { entry = k; place = place; queue = queue.Arrivals n; item = item.Arrival from key k } ∷ []
-    → ((j : ℕ) → ends_by n log e (listening_ends_of log n) j ≡ with_named k (Some listening.Arriving) (listening_ends_of log n) j)
+    → ((j : ℕ) → listening_ends_of (log ++ e ∷ []) n j ≡ with_named k (Some listening.Arriving) (listening_ends_of log n) j)
     → ListenerStands configs (log ++ e ∷ []) n (arrived k place from key l)
 listener_arrived configs log e n k place from key l s no_step more begins =
     let x : Envelope = record { entry = k; place = place; queue = queue.Arrivals n; item = item.Arrival from key k } in
@@ -209,14 +152,14 @@ listener_arrived configs log e n k place from key l s no_step more begins =
           ∙ (map-append (λ (y : Envelope). y.item) before (x ∷ [])
           ∙ (ap (λ l. l ++ item.Arrival from key k ∷ []) s.items ∙ sym (map-append arrival_item l.actor.arrivals (a ∷ []))));
       rules = s.rules;
-      known = subst (StandsFor (with_arrival l.actor a)) (sym (known_of-kept configs log e n (steps_none n e.event.act no_step))) (record { addresses = s.known.addresses; passed = s.known.passed });
-      places = s.places ∙ ap (λ (names : List ℕ). record { held = length names; max = most_handshakes_at configs n }) (sym (handshakes_of-append log e n ∙ handshakes_unmoved log e n no_step));
+      known = subst (StandsFor (with_arrival l.actor a)) (sym (unstepped_known log e n no_step configs)) (record { addresses = s.known.addresses; passed = s.known.passed });
+      places = s.places ∙ ap (λ (names : List ℕ). record { held = length names; max = most_handshakes_at configs n }) (sym (unstepped_handshakes log e n no_step));
       works = s.works;
       timeout = s.timeout;
-      handshakes = handshakes_kept configs log e n l.handshakes (handshakes_unmoved log e n no_step) (unmoved_tells log e n no_step) s.handshakes;
-      untold = untold_kept log e n (λ j past. unmoved_tells log e n no_step j) s.untold;
+      handshakes = handshakes_kept configs log e n l.handshakes (unstepped_handshakes log e n no_step) (unstepped_tells log e n no_step) s.handshakes;
+      untold = untold_kept log e n (λ j past. unstepped_tells log e n no_step j) s.untold;
       ends = λ j. at-inserted k j listening.Arriving l.ends
-          ∙ (ap (λ o. cond (j == k) (Some listening.Arriving) o) (s.ends j) ∙ sym (listening_ends_of-append log e n j ∙ begins j));
+          ∙ (ap (λ o. cond (j == k) (Some listening.Arriving) o) (s.ends j) ∙ sym (begins j));
     }
 
 -- ---- its step
@@ -229,15 +172,15 @@ rules_kept l u rest rates =
 
 -- what a step makes of it: it took these
 pub record ListenerMoves (configs : List Config) (log : List Entry) (e : Entry) (n : ℕ) (l u : Listening) (items : List Item) : Type 0 where
-  pub steps : steps_listener n e.event.act ≡ true
+  pub steps : e.event.act ≡ act.Listener n
   pub took : taken log e ≡ items
   pub names : u.names ≡ map name_of (line (log ++ e ∷ []) (queue.Arrivals n))
   pub waits : map (λ x. x.item) (line (log ++ e ∷ []) (queue.Arrivals n)) ≡ map arrival_item u.actor.arrivals
   pub judged : IsJudged (gate_rules_at configs n) (known_of configs log n) e.event.at e.reply items
   pub known : StandsFor u.actor (took_known (gate_rules_at configs n) e.event.at items (known_of configs log n))
-  pub places : u.actor.places ≡ record { held = length (with_admitted (length log) e.reply (handshakes_of log n)); max = most_handshakes_at configs n }
+  pub places : u.actor.places ≡ record { held = length (handshakes_of (log ++ e ∷ []) n); max = most_handshakes_at configs n }
   pub handshakes : (k : ℕ) → HandshakeIs (facts_of configs (log ++ e ∷ []) n k) k (is_handshaking (log ++ e ∷ []) n k) (table.at u.handshakes k)
-  pub ends : EndsAre (listened (length log) e.reply items (table.at l.ends)) u.ends
+  pub ends : EndsAre (listening_ends_of (log ++ e ∷ []) n) u.ends
   pub rest : u.actor ≡ with_rest l.actor u.actor
   pub rates : KeepsRates l.actor.quotas u.actor.quotas
 
@@ -247,14 +190,19 @@ listener_moved configs log e n l u items s m = record {
   names = m.names;
   items = m.waits;
   rules = rules_kept l.actor u.actor m.rest m.rates ∙ s.rules;
-  known = subst (StandsFor u.actor) (sym (known_after configs log e n items m.steps m.took m.judged)) m.known;
-  places = m.places ∙ ap (λ (names : List ℕ). record { held = length names; max = most_handshakes_at configs n }) (sym (handshakes-admitted log e n m.steps));
+  known = subst (StandsFor u.actor) (sym known_now) m.known;
+  places = m.places;
   works = ap (λ (a : Actor Key). a.has_failed) m.rest ∙ s.works;
   timeout = ap (λ (a : Actor Key). a.handshake_timeout) m.rest ∙ s.timeout;
   handshakes = m.handshakes;
   untold = untold_kept log e n (λ k past. listener_tells log e n m.steps k) s.untold;
-  ends = λ k. m.ends k ∙ sym (listened_ends log e n items (table.at l.ends) m.steps m.took s.ends k);
+  ends = m.ends;
 }
+  where
+    known_now : known_of configs (log ++ e ∷ []) n ≡ took_known (gate_rules_at configs n) e.event.at items (known_of configs log n)
+    known_now =
+        known_of-listened configs log e n m.steps (subst (IsJudged (gate_rules_at configs n) (known_of configs log n) e.event.at e.reply) (sym m.took) m.judged)
+        ∙ ap (λ l. took_known (gate_rules_at configs n) e.event.at l (known_of configs log n)) m.took
 
 -- ---- a step of a handshake
 
@@ -280,23 +228,34 @@ pub record HandshakeMoves (configs : List Config) (log : List Entry) (e : Entry)
   pub rest : u ≡ record l { actor = freed_if ended l.actor; handshakes = u.handshakes; ends = u.ends }
   pub others : AreBut name now l.handshakes u.handshakes
   pub stands : HandshakeIs (facts_after items (facts_of configs log n name)) name (not ended) now
-  pub ends : EndsAre (unless_dropped ended (peer_at log name).link (table.at l.ends)) u.ends
+  pub ends : EndsAre (ends_left ended (peer_at log name).link (table.at l.ends)) u.ends
 
 -- whether it has ended, by what it took
 pub handshakes_stepped : (log : List Entry) (e : Entry) (n name : ℕ) (items : List Item) (ended : Bool) → e.event.act ≡ act.Handshake name n → taken log e ≡ items → ends_handshake e.reply items ≡ ended
-    → handshakes_by n log e (handshakes_of log n) ≡ unless_ended ended name (handshakes_of log n)
+    → handshakes_of (log ++ e ∷ []) n ≡ cond ended (without_name name (handshakes_of log n)) (handshakes_of log n)
 handshakes_stepped log e n name items ended steps took over =
-    let hs = handshakes_of log n in
-    ap (λ a. acted_handshakes n (length log) e.reply (taken log e) a hs) steps
-    ∙ (ap (λ b. cond b (unless_ended (ends_handshake e.reply (taken log e)) name hs) hs) (eq-eqb n n refl)
-    ∙ (ap (λ i. unless_ended (ends_handshake e.reply i) name hs) took ∙ ap (λ b. unless_ended b name hs) over))
+    handshakes_of-shaken log e n name steps ∙ ap (λ b. cond b (without_name name (handshakes_of log n)) (handshakes_of log n)) (ap (ends_handshake e.reply) took ∙ over)
+
+-- what has the listening ends then
+dropped_ends : (log : List Entry) (e : Entry) (n name : ℕ) (items : List Item) (ended : Bool) (ends : ℕ → Option ListeningEnd) → e.event.act ≡ act.Handshake name n → taken log e ≡ items
+    → ends_handshake e.reply items ≡ ended → ((k : ℕ) → ends k ≡ listening_ends_of log n k) → (k : ℕ) → listening_ends_of (log ++ e ∷ []) n k ≡ ends_left ended (peer_at log name).link ends k
+dropped_ends log e n name items ended ends steps took over same k =
+    let before : ℕ → Option ListeningEnd = listening_ends_of log n in
+    let link : ℕ = (peer_at log name).link in
+    listening_ends_of-shaken log e n name n steps k
+    ∙ (ap (λ b. cond b (cond (ends_handshake e.reply (taken log e)) (with_named link None before k) (before k)) (before k)) (eq-eqb n n refl)
+    ∙ (ap (λ b. cond b (with_named link None before k) (before k)) (ap (ends_handshake e.reply) took ∙ over) ∙ by ended))
+  where
+    by : (b : Bool) → cond b (with_named (peer_at log name).link None (listening_ends_of log n) k) (listening_ends_of log n k) ≡ ends_left b (peer_at log name).link ends k
+    by true = ap (λ o. cond (k == (peer_at log name).link) None o) (sym (same k))
+    by false = sym (same k)
 
 -- the step of a handshake tells another nothing
 other_told : (log : List Entry) (e : Entry) (n name k : ℕ) → e.event.act ≡ act.Handshake name n → (k == name) ≡ false → TellsNothing log e n k
-other_told log e n name k steps other = other_tells log e n k (ap (steps_handshake n k) steps ∙ apart n name k other)
+other_told log e n name k steps other = other_tells log e n k (λ so. apart (sym steps ∙ so))
   where
-    apart : (n name k : ℕ) → (k == name) ≡ false → ((n == n) && (name == k)) ≡ false
-    apart n name k other = grind (arith, nat_tests)
+    apart : act.Handshake name n ≡ act.Handshake k n → ⊥
+    apart so = let same : k ≡ name = cc in let t : true ≡ false = sym (eq-eqb k name same) ∙ other in cc
 
 rules_freed : (b : Bool) (l : Actor Key) → rules_of (freed_if b l) ≡ rules_of l
 rules_freed true l = refl
@@ -319,8 +278,8 @@ listener_after_handshake configs log e n name l u items ended now s m =
       names = s.names ∙ ap (map name_of) (sym m.arrivals);
       items = ap (map (λ (x : Envelope). x.item)) m.arrivals ∙ (s.items ∙ ap (map arrival_item) (sym kept.0));
       rules = rules_freed ended l.actor ∙ s.rules;
-      known = subst (StandsFor actor) (sym (known_of-kept configs log e n (ap (steps_listener n) m.steps))) (known_freed ended l.actor (known_of configs log n) s.known);
-      places = places ended ∙ ap (λ (names : List ℕ). record { held = length names; max = most_handshakes_at configs n }) (sym (handshakes_of-append log e n ∙ names));
+      known = subst (StandsFor actor) (sym (known_of-apart configs log e n (ap (λ a. are_apart (kinds_of a) hearing_kinds) m.steps))) (known_freed ended l.actor (known_of configs log n) s.known);
+      places = places ended ∙ ap (λ (names : List ℕ). record { held = length names; max = most_handshakes_at configs n }) (sym names);
       works = kept.1.0 ∙ s.works;
       timeout = kept.1.1 ∙ s.timeout;
       handshakes = handshakes_changed configs log e n name now l.handshakes u.handshakes (handshaking-others configs log e n name ended names) (λ k other. other_told log e n name k m.steps other) m.others
@@ -335,7 +294,7 @@ listener_after_handshake configs log e n name l u items ended now s m =
     later : (k c : ℕ) → suc name ≤ c → c + 1 ≤ k → (k == name) ≡ false
     later k c early past = grind (arith, nat_tests)
 
-    names : handshakes_by n log e (handshakes_of log n) ≡ unless_ended ended name (handshakes_of log n)
+    names : handshakes_of (log ++ e ∷ []) n ≡ cond ended (without_name name (handshakes_of log n)) (handshakes_of log n)
     names = handshakes_stepped log e n name items ended m.steps m.took m.over
 
     stays : HandshakeIs (facts_of configs (log ++ e ∷ []) n name) name (not ended) now
@@ -344,7 +303,7 @@ listener_after_handshake configs log e n name l u items ended now s m =
     less : (a b : ℕ) → a + 1 ≡ b → b - 1 ≡ a
     less a b is = omega (arith, is)
 
-    places : (b : Bool) → (freed_if b l.actor).places ≡ record { held = length (unless_ended b name (handshakes_of log n)); max = most_handshakes_at configs n }
+    places : (b : Bool) → (freed_if b l.actor).places ≡ record { held = length (cond b (without_name name (handshakes_of log n)) (handshakes_of log n)); max = most_handshakes_at configs n }
     places true =
         ap one_freed s.places
         ∙ ap (λ c. record { held = c; max = most_handshakes_at configs n }) (less (length (without_name name (handshakes_of log n))) (length (handshakes_of log n)) (one_less log n name m.runs))

@@ -6,6 +6,7 @@ use Rattle.std.specs.List.{list_any}
 use Rattle.std.specs.Ordering.{nat_cmp}
 use Rattle.std.proofs.lemmas.Bool.Decides.{nat_tests}
 use Rattle.std.proofs.lemmas.List.Folds.{list_any-append}
+use Rattle.p2p_log_rules.proofs.Bools.{or_false, or_true}
 use Rattle.p2p_base.specs.declared.key.Key.{Key}
 use Rattle.p2p_gates.specs.Handshaking.{Handshaking}
 use Rattle.p2p_log.specs.declared.config.Config.{Config}
@@ -15,9 +16,10 @@ use Rattle.p2p_log.specs.declared.event.Act.TheVariants as act
 use Rattle.p2p_log.proofs.Places.{slice_get-append}
 use Rattle.p2p_log_rules.specs.Attempting.{dial_rules_at}
 use Rattle.p2p_log_rules.specs.Facts.{moment_of, taken, taken_at}
-use Rattle.p2p_log_rules.specs.Handshakes.{unless_ended, handshakes_by, handshakes_of, is_handshaking, steps_handshake, takes_acceptance, takes_exchange, has_taken, is_accepted, is_finished}
+use Rattle.p2p_log_rules.specs.Handshakes.{handshakes_of, is_handshaking, takes_acceptance, takes_exchange, has_taken, is_accepted, is_finished}
 use Rattle.p2p_log_rules.specs.Handshaking.{handshake_deadline}
-use Rattle.p2p_log_rules.proofs.Handshakes.{handshakes_of-append, handshakes_of-kept, has_taken-append, among-without, handshaking_early}
+use Rattle.p2p_log_rules.proofs.Handshakes.{without_name, among-without, handshaking_early}
+use Rattle.p2p_log_rules.proofs.HandshakeTook.{IsOther, has_taken-step, has_taken-other, has_taken-unsuch}
 use Rattle.p2p_log_rules.proofs.TakenAt.{taken_at-longer, taken_at-last}
 use Rattle.p2p_net_queues.specs.Tables as table
 use Rattle.p2p_net_queues.specs.Tables.{AreBut}
@@ -52,21 +54,12 @@ deadline-last configs log e n = ap (λ (o : Option Entry). moment_of o + (dial_r
 -- ---- what it is told
 
 -- no step of it tells it nothing
-pub other_tells : (log : List Entry) (e : Entry) (n k : ℕ) → steps_handshake n k e.event.act ≡ false → TellsNothing log e n k
-other_tells log e n k other =
-    (ap (λ b. (b && takes_acceptance (taken log e)) || is_accepted log n k) other, ap (λ b. (b && takes_exchange (taken log e)) || is_finished log n k) other)
+pub other_tells : (log : List Entry) (e : Entry) (n k : ℕ) → IsOther n k e.event.act → TellsNothing log e n k
+other_tells log e n k other = (has_taken-other takes_acceptance log e n k other, has_taken-other takes_exchange log e n k other)
 
 -- and so does an entry that takes nothing
 pub nothing_tells : (log : List Entry) (e : Entry) (n k : ℕ) → taken log e ≡ [] → TellsNothing log e n k
-nothing_tells log e n k none =
-    let b = steps_handshake n k e.event.act in (
-      ap (λ i. (b && takes_acceptance i) || is_accepted log n k) none ∙ and_false b (is_accepted log n k),
-      ap (λ i. (b && takes_exchange i) || is_finished log n k) none ∙ and_false b (is_finished log n k),
-    )
-  where
-    and_false : (b c : Bool) → ((b && false) || c) ≡ c
-    and_false true c = refl
-    and_false false c = refl
+nothing_tells log e n k none = (has_taken-unsuch takes_acceptance log e n k (ap takes_acceptance none), has_taken-unsuch takes_exchange log e n k (ap takes_exchange none))
 
 -- what has yet to begin was told nothing
 pub untold_kept : (log : List Entry) (e : Entry) (n : ℕ) → ((k : ℕ) → length log + 1 ≤ k → TellsNothing log e n k) → ((k : ℕ) → length log ≤ k → IsUntold log n k)
@@ -75,7 +68,7 @@ untold_kept log e n tells untold k late =
     let past : length log + 1 ≤ k = subst (λ m. m ≤ k) (length-append log (e ∷ [])) late in
     let t = tells k past in
     let u = untold k (less (length log) k past) in
-    (has_taken-append takes_acceptance log e n k ∙ (t.0 ∙ u.0), has_taken-append takes_exchange log e n k ∙ (t.1 ∙ u.1))
+    (t.0 ∙ u.0, t.1 ∙ u.1)
   where
     less : (a b : ℕ) → a + 1 ≤ b → a ≤ b
     less a b h = omega (arith, h)
@@ -101,8 +94,7 @@ module _ (configs : List Config) (log : List Entry) (e : Entry) (n : ℕ) where
   pub facts-kept : (k : ℕ) → suc k ≤ length log → TellsNothing log e n k → facts_of configs (log ++ e ∷ []) n k ≡ facts_of configs log n k
   facts-kept k early tells =
       facts_same (handshake_deadline configs (log ++ e ∷ []) k n) (handshake_deadline configs log k n) (is_accepted (log ++ e ∷ []) n k) (is_accepted log n k) (is_finished (log ++ e ∷ []) n k)
-      (is_finished log n k) (taken_at (log ++ e ∷ []) k) (taken_at log k) (deadline-longer configs log e k n early) (has_taken-append takes_acceptance log e n k ∙ tells.0)
-      (has_taken-append takes_exchange log e n k ∙ tells.1) (taken_at-longer log (e ∷ []) k early)
+      (is_finished log n k) (taken_at (log ++ e ∷ []) k) (taken_at log k) (deadline-longer configs log e k n early) tells.0 tells.1 (taken_at-longer log (e ∷ []) k early)
 
   -- and where it is a step of it
   pub facts-stepped : (k : ℕ) (items : List Item) → suc k ≤ length log → e.event.act ≡ act.Handshake k n → taken log e ≡ items
@@ -112,22 +104,15 @@ module _ (configs : List Config) (log : List Entry) (e : Entry) (n : ℕ) where
       (is_finished (log ++ e ∷ []) n k) (takes_exchange items || is_finished log n k) (taken_at (log ++ e ∷ []) k) (taken_at log k) (deadline-longer configs log e k n early)
       (told takes_acceptance) (told takes_exchange) (taken_at-longer log (e ∷ []) k early)
     where
-      itself : (n k : ℕ) → ((n == n) && (k == k)) ≡ true
-      itself n k = grind (arith, nat_tests)
-
       told : (test : List Item → Bool) → has_taken test (log ++ e ∷ []) n k ≡ (test items || has_taken test log n k)
-      told test =
-          has_taken-append test log e n k
-          ∙ (ap (λ a. (steps_handshake n k a && test (taken log e)) || has_taken test log n k) steps
-          ∙ (ap (λ b. (b && test (taken log e)) || has_taken test log n k) (itself n k) ∙ ap (λ i. test i || has_taken test log n k) took))
+      told test = has_taken-step test log e n k steps ∙ ap (λ i. test i || has_taken test log n k) took
 
   -- of one that begins in the entry
   pub facts-begun : TellsNothing log e n (length log) → IsUntold log n (length log) → facts_of configs (log ++ e ∷ []) n (length log) ≡ facts_begun configs log e n
   facts-begun tells untold =
       let k = length log in
       facts_same (handshake_deadline configs (log ++ e ∷ []) k n) (e.event.at + (dial_rules_at configs n).handshake_timeout) (is_accepted (log ++ e ∷ []) n k) false (is_finished (log ++ e ∷ []) n k) false
-      (taken_at (log ++ e ∷ []) k) (taken log e) (deadline-last configs log e n) (has_taken-append takes_acceptance log e n k ∙ (tells.0 ∙ untold.0))
-      (has_taken-append takes_exchange log e n k ∙ (tells.1 ∙ untold.1)) (taken_at-last log e)
+      (taken_at (log ++ e ∷ []) k) (taken log e) (deadline-last configs log e n) (tells.0 ∙ untold.0) (tells.1 ∙ untold.1) (taken_at-last log e)
 
 -- ---- all of them
 
@@ -151,9 +136,9 @@ module _ (configs : List Config) (log : List Entry) (e : Entry) (n : ℕ) where
       (λ runs. sym (facts-kept configs log e n k (handshaking_early log n k runs) tells)) h)
 
   -- an entry that begins and ends none, and tells none anything
-  pub handshakes_kept : (hs : List (ℕ × Handshaking Key)) → handshakes_by n log e (handshakes_of log n) ≡ handshakes_of log n → ((k : ℕ) → TellsNothing log e n k) → AreKept log hs
+  pub handshakes_kept : (hs : List (ℕ × Handshaking Key)) → handshakes_of (log ++ e ∷ []) n ≡ handshakes_of log n → ((k : ℕ) → TellsNothing log e n k) → AreKept log hs
       → AreKept (log ++ e ∷ []) hs
-  handshakes_kept hs none tells kept k = one_kept hs k (ap (list_any (λ j. k == j)) (handshakes_of-kept log e n none)) (tells k) (kept k)
+  handshakes_kept hs none tells kept k = one_kept hs k (ap (list_any (λ j. k == j)) none) (tells k) (kept k)
 
   -- an entry that changes the one of this name, which is this then
   pub handshakes_changed : (name : ℕ) (now : Option (Handshaking Key)) (old new : List (ℕ × Handshaking Key)) → ((k : ℕ) → (k == name) ≡ false → is_handshaking (log ++ e ∷ []) n k ≡ is_handshaking log n k)
@@ -167,10 +152,10 @@ module _ (configs : List Config) (log : List Entry) (e : Entry) (n : ℕ) where
       by false is = one_kept old k (others k is) (tells k is) (kept k)
 
   -- the entry begins one: whether one of this name runs then
-  handshaking-begun : handshakes_by n log e (handshakes_of log n) ≡ handshakes_of log n ++ length log ∷ [] → (k : ℕ) → is_handshaking (log ++ e ∷ []) n k ≡ (is_handshaking log n k || ((k == length log) || false))
-  handshaking-begun begins k = ap (list_any (λ j. k == j)) (handshakes_of-append log e n ∙ begins) ∙ list_any-append (λ j. k == j) (handshakes_of log n) (length log ∷ [])
+  handshaking-begun : handshakes_of (log ++ e ∷ []) n ≡ handshakes_of log n ++ length log ∷ [] → (k : ℕ) → is_handshaking (log ++ e ∷ []) n k ≡ (is_handshaking log n k || ((k == length log) || false))
+  handshaking-begun begins k = ap (list_any (λ j. k == j)) begins ∙ list_any-append (λ j. k == j) (handshakes_of log n) (length log ∷ [])
 
-  pub handshakes_begun : (hs : List (ℕ × Handshaking Key)) (h : Handshaking Key) → handshakes_by n log e (handshakes_of log n) ≡ handshakes_of log n ++ length log ∷ []
+  pub handshakes_begun : (hs : List (ℕ × Handshaking Key)) (h : Handshaking Key) → handshakes_of (log ++ e ∷ []) n ≡ handshakes_of log n ++ length log ∷ []
       → ((k : ℕ) → TellsNothing log e n k) → IsUntold log n (length log) → IsRunning (facts_begun configs log e n) (length log) h → AreKept log hs
       → AreKept (log ++ e ∷ []) (insert_entry nat_cmp hs (length log) h)
   handshakes_begun hs h begins tells untold running kept =
@@ -182,29 +167,21 @@ module _ (configs : List Config) (log : List Entry) (e : Entry) (n : ℕ) where
       here : (a : ℕ) → (a == a) ≡ true
       here a = grind (arith, nat_tests)
 
-      or_true : (b : Bool) → (b || true) ≡ true
-      or_true true = refl
-      or_true false = refl
-
-      or_false : (b : Bool) → (b || false) ≡ b
-      or_false true = refl
-      or_false false = refl
-
   -- the entry may end the one of this name
-  module _ (name : ℕ) (ended : Bool) (ends : handshakes_by n log e (handshakes_of log n) ≡ unless_ended ended name (handshakes_of log n)) where
+  module _ (name : ℕ) (ended : Bool) (ends : handshakes_of (log ++ e ∷ []) n ≡ cond ended (without_name name (handshakes_of log n)) (handshakes_of log n)) where
     pub handshaking-others : (k : ℕ) → (k == name) ≡ false → is_handshaking (log ++ e ∷ []) n k ≡ is_handshaking log n k
-    handshaking-others k other = ap (list_any (λ j. k == j)) (handshakes_of-append log e n ∙ ends) ∙ by ended
+    handshaking-others k other = ap (list_any (λ j. k == j)) ends ∙ by ended
       where
-        by : (b : Bool) → list_any (λ j. k == j) (unless_ended b name (handshakes_of log n)) ≡ is_handshaking log n k
+        by : (b : Bool) → list_any (λ j. k == j) (cond b (without_name name (handshakes_of log n)) (handshakes_of log n)) ≡ is_handshaking log n k
         by true = among-without name k (handshakes_of log n) ∙ ap (λ b. not b && is_handshaking log n k) other
         by false = refl
 
     pub handshaking-itself : is_handshaking log n name ≡ true → is_handshaking (log ++ e ∷ []) n name ≡ not ended
-    handshaking-itself runs = ap (list_any (λ j. name == j)) (handshakes_of-append log e n ∙ ends) ∙ by ended
+    handshaking-itself runs = ap (list_any (λ j. name == j)) ends ∙ by ended
       where
         here : (a : ℕ) → (a == a) ≡ true
         here a = grind (arith, nat_tests)
 
-        by : (b : Bool) → list_any (λ j. name == j) (unless_ended b name (handshakes_of log n)) ≡ not b
+        by : (b : Bool) → list_any (λ j. name == j) (cond b (without_name name (handshakes_of log n)) (handshakes_of log n)) ≡ not b
         by true = among-without name name (handshakes_of log n) ∙ ap (λ b. not b && is_handshaking log n name) (here name)
         by false = runs

@@ -1,6 +1,6 @@
 pub mod Changes
-pub mod Ends
 pub mod Finishing
 pub mod Handshakes
+pub mod Leaving
 pub mod Peers
 pub mod Steps

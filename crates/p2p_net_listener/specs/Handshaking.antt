@@ -14,7 +14,8 @@ use Rattle.p2p_gates.specs.declared.stepped.Outcome.{Outcome}
 use Rattle.p2p_gates.specs.declared.stepped.Outcome.TheVariants as outcome
 use Rattle.p2p_gates.specs.declared.stepped.Stepped.{Stepped}
 use Rattle.p2p_gates.specs.declared.stepped.Stepped.TheVariants as stepped
-use Rattle.p2p_log_rules.specs.Links.{unless_dropped}
+use Rattle.p2p_log_rules.specs.declared.row.ListeningEnd.{ListeningEnd}
+use Rattle.p2p_log_rules.specs.Facts.{with_named}
 use Rattle.p2p_net_queues.specs.Tables as table
 use Rattle.p2p_net_queues.specs.Tables.{AreBut}
 use Rattle.p2p_net_listener.specs.Listening.{asked_item, EndsAre}
@@ -44,12 +45,17 @@ freed_if false l = l
 abbrev pub unless_ended : Handshaking Key → Option (Handshaking Key)
 unless_ended h = cond h.has_ended None (Some h)
 
+-- what has the listening ends of the links, once the handshake may have ended that had that of this one
+abbrev pub ends_left : Bool → ℕ → (ℕ → Option ListeningEnd) → ℕ → Option ListeningEnd
+ends_left true link ends k = with_named link None ends k
+ends_left false link ends k = ends k
+
 -- what a turn of the handshake of this name makes of the listener, and of its tracker's mailbox
 pub record TurnsHandshake (turn : Turn (Handshaking Key) Key) (name : ℕ) (old new : Listening) (after : Mailbox Key) (s : HandshakeStep) : Type 0 where
   pub did : s ≡ served_by turn.stepped turn.actor.arrival.link turn.actor.has_ended
   pub rest : new ≡ record old { actor = freed_if turn.actor.has_ended old.actor; handshakes = new.handshakes; ends = new.ends }
   pub others : AreBut name (unless_ended turn.actor) old.handshakes new.handshakes
-  pub ends : EndsAre (unless_dropped turn.actor.has_ended turn.actor.arrival.link (table.at old.ends)) new.ends
+  pub ends : EndsAre (ends_left turn.actor.has_ended turn.actor.arrival.link (table.at old.ends)) new.ends
   pub mailbox : after ≡ turn.way
 
 -- where there is none of this name, nothing changes

@@ -11,13 +11,11 @@ use Rattle.p2p_log.specs.declared.item.Item.{Item}
 use Rattle.p2p_log.specs.declared.item.Item.TheVariants as item
 use Rattle.p2p_log.specs.declared.entry.Entry.{Entry}
 use Rattle.p2p_log.specs.Lines.{name_of, line}
-use Rattle.p2p_log.specs.declared.event.Act.{Act}
-use Rattle.p2p_log.specs.declared.event.Act.TheVariants as act
 use Rattle.p2p_log_rules.specs.Attempting.{dial_rules_at}
 use Rattle.p2p_log_rules.specs.Facts.{taken_at}
-use Rattle.p2p_log_rules.specs.Handshakes.{handshakes_by, handshakes_of, is_handshaking, takes_acceptance, takes_exchange, took_by, is_accepted, is_finished, source_of, peer_of}
+use Rattle.p2p_log_rules.specs.Handshakes.{handshakes_of, is_handshaking, is_accepted, is_finished, source_of, peer_of}
 use Rattle.p2p_log_rules.specs.Handshaking.{handshake_deadline}
-use Rattle.p2p_log_rules.specs.Links.{ends_by, listening_ends_of}
+use Rattle.p2p_log_rules.specs.Links.{listening_ends_of}
 use Rattle.p2p_log_rules.specs.Listening.{gate_rules_at, most_handshakes_at, known_of}
 use Rattle.p2p_net_queues.specs.Tables as table
 use Rattle.p2p_net_listener.specs.Listening.{EndsAre}
@@ -87,26 +85,14 @@ pub record ListenerStands (configs : List Config) (log : List Entry) (n : ℕ) (
 
 -- ---- an entry that leaves it alone
 
--- whether an act is of the node's listener, or of a handshake of it
-abbrev pub is_of_listener : ℕ → Act → Bool
-is_of_listener n (act.Listener m) = m == n
-is_of_listener n (act.Handshake e m) = m == n
-is_of_listener n _ = false
-
--- whether an act links an attempt to the node's listener
-abbrev pub links_to : ℕ → Act → Bool
-links_to n (act.Connect e from m to) = to == n
-links_to n _ = false
-
 -- an entry that tells a handshake nothing of its peer or of its keys
 abbrev pub TellsNothing : List Entry → Entry → ℕ → ℕ → Type 0
 TellsNothing log e n name =
-    (took_by takes_acceptance n name log e (is_accepted log n name) ≡ is_accepted log n name)
-    × (took_by takes_exchange n name log e (is_finished log n name) ≡ is_finished log n name)
+    (is_accepted (log ++ e ∷ []) n name ≡ is_accepted log n name) × (is_finished (log ++ e ∷ []) n name ≡ is_finished log n name)
 
 pub record LeavesListener (configs : List Config) (log : List Entry) (e : Entry) (n : ℕ) : Type 0 where
   pub known : known_of configs (log ++ e ∷ []) n ≡ known_of configs log n
-  pub handshakes : handshakes_by n log e (handshakes_of log n) ≡ handshakes_of log n
+  pub handshakes : handshakes_of (log ++ e ∷ []) n ≡ handshakes_of log n
   pub arrivals : line (log ++ e ∷ []) (queue.Arrivals n) ≡ line log (queue.Arrivals n)
   pub tells : (k : ℕ) → TellsNothing log e n k
-  pub ends : (k : ℕ) → ends_by n log e (listening_ends_of log n) k ≡ listening_ends_of log n k
+  pub ends : (k : ℕ) → listening_ends_of (log ++ e ∷ []) n k ≡ listening_ends_of log n k

@@ -1,11 +1,10 @@
 //! The steps of the handshakes of a node's listener, and what they are told of their keys.
 ghost use Rattle.std.specs.Prelude.{◌≡◌, ◌<◌, ℕ, true, is_some, IfOk, OnOk};
 ghost use Rattle.std.specs.Option.{option_map};
-ghost use Rattle.p2p_log_rules.specs.Links.{unless_dropped};
 ghost use Rattle.p2p_net_queues.specs.Tables as table;
 ghost use Rattle.p2p_net_queues.specs.Tables.{kept_with};
 ghost use Rattle.p2p_net_listener.specs.Listening.{EndsAre};
-ghost use Rattle.p2p_net_listener.specs.Handshaking.{ready_over, served_by, freed_if, is_accepting, link_over, finished_in, StepsHandshake};
+ghost use Rattle.p2p_net_listener.specs.Handshaking.{ready_over, served_by, freed_if, ends_left, is_accepting, link_over, finished_in, StepsHandshake};
 
 use crate::listening::{Listening, asked};
 use p2p_base::Key;
@@ -101,7 +100,7 @@ impl Listening {
         ensures handshakes { OnOk result
             (self.new.handshakes ≡ kept_with handshake.has_ended name handshake self.old.handshakes) }
         ensures ends { OnOk result (EndsAre
-            (unless_dropped handshake.has_ended handshake.arrival.link (table.at self.old.ends)) self.new.ends) }
+            (ends_left handshake.has_ended handshake.arrival.link (table.at self.old.ends)) self.new.ends) }
         ensures rest { OnOk result (self.new ≡ record self.old {
           actor = freed_if handshake.has_ended self.old.actor;
           handshakes = self.new.handshakes;

@@ -3,6 +3,7 @@ use Rattle.std.proofs.Common.{◌≡◌, ℕ, suc, ◌+◌, Bool, true, false, c
 use Rattle.std.specs.Prelude.{filter, flat_map, map, ◌||◌}
 use Rattle.std.specs.BTreeMap.{BTreeMap}
 use Rattle.std.proofs.lemmas.List.Elements.{filter-append}
+use Rattle.p2p_log_rules.proofs.Bools.{or_false}
 use Rattle.p2p_base.specs.declared.key.Key.{Key}
 use Rattle.p2p_router.specs.Routes.{Routes}
 use Rattle.p2p_router.specs.Messenger.{Desk, is_bound}
@@ -16,11 +17,9 @@ use Rattle.p2p_log.specs.declared.queue.Queue.TheVariants as queue
 use Rattle.p2p_log.specs.QueueCode.{same_queue}
 use Rattle.p2p_log.specs.Lines.{name_of, ended_item, stays, placed, live, stands_in}
 use Rattle.p2p_log_rules.specs.Connections.{is_ended}
-use Rattle.p2p_log_rules.specs.Facts.{starts, is_up, registers_at, channels, routed_by, subscribers, routes, sum_capacities}
-use Rattle.p2p_log_rules.proofs.Routing.{subscriber_of, routes_after}
+use Rattle.p2p_log_rules.specs.Facts.{starts, is_up, registers_at, channels, sum_capacities}
 use Rattle.p2p_log_rules.specs.Effect.{mailbox_size_at, router_capacity}
 use Rattle.p2p_log_rules.proofs.Channels.{channels-append, is_up-append}
-use Rattle.p2p_log_rules.proofs.Facts.{subscribers-append, routes-append}
 use Rattle.p2p_log.proofs.Lines.{live-append, filter_stays-nil}
 use Rattle.p2p_log.specs.Apart.{AreApart}
 use Rattle.p2p_log.proofs.Names.{filter_stays-first}
@@ -29,7 +28,7 @@ use Rattle.p2p_net_router.specs.Names.{is_routers, label, bare_item}
 use Rattle.p2p_net_router.specs.Items.{channel_of}
 use Rattle.p2p_net_router.specs.Ends.{AreEnded}
 use Rattle.p2p_net_router.specs.Holds.{Holds, routes_in}
-use Rattle.p2p_net_router.specs.Stands.{StandsOver, StandsFor, HasPlaces, IsBeside, AreAway, IsReadied}
+use Rattle.p2p_net_router.specs.Stands.{RoutesNothing, StandsOver, StandsFor, HasPlaces, IsBeside, AreAway, IsReadied}
 use Rattle.p2p_net_router.specs.declared.router.Router.{Router}
 use Rattle.p2p_net_router.specs.declared.name.Name.{Name}
 use Rattle.p2p_net_router.proofs.Endings.{ended_beside}
@@ -37,10 +36,6 @@ use Rattle.p2p_net_router.proofs.Endings.{ended_beside}
 -- the router with another mailbox, other relays, peers and names
 abbrev pub moved_to : Router → Desk Key → Routes Key → BTreeMap ℕ Key → Board Name → Router
 moved_to r desk actor peers names = record r { messenger = desk; actor = actor; peers = peers; names = names }
-
-or-false : (b : Bool) → (b || false) ≡ b
-or-false true = refl
-or-false false = refl
 
 -- the router holds other items that are the same in its queues
 pub holds_same :
@@ -55,7 +50,7 @@ holds_same size r items more h same = record {
 -- the router moved what the entry says, which is none of its steps, registrations and starts, and has these items
 pub moved_over :
     (configs : List Config) (log : List Entry) (e : Entry) (r : Router) (desk : Desk Key) (actor : Routes Key) (peers : BTreeMap ℕ Key) (names : Board Name) (items more : List Envelope)
-    → StandsOver configs log r items → routed_by r.number log e ≡ [] → registers_at configs r.number e.event.act ≡ [] → starts r.number e.event.act ≡ false
+    → StandsOver configs log r items → RoutesNothing log e r.number → registers_at configs r.number e.event.act ≡ [] → starts r.number e.event.act ≡ false
     → routes_in actor.links ≡ routes_in r.actor.links → actor.subscriptions ≡ r.actor.subscriptions → actor.failed ≡ r.actor.failed
     → is_bound desk.binding ≡ is_bound r.messenger.binding → ((k : ℕ) → HasPlaces k r.messenger.binding → HasPlaces k desk.binding)
     → AreEnded (is_ended (log ++ e ∷ []) r.number) peers actor.links
@@ -66,12 +61,12 @@ moved_over configs log e r desk actor peers names items more s no_step no_channe
     let same : channels configs (log ++ e ∷ []) n ≡ channels configs log n =
     channels-append configs log e n ∙ (ap (λ l. channels configs log n ++ l) no_channel ∙ append-nil (channels configs log n))
     in
-    let up : is_up (log ++ e ∷ []) n ≡ is_up log n = is_up-append log e n ∙ (ap (λ x. is_up log n || x) no_start ∙ or-false (is_up log n)) in
+    let up : is_up (log ++ e ∷ []) n ≡ is_up log n = is_up-append log e n ∙ (ap (λ x. is_up log n || x) no_start ∙ or_false (is_up log n)) in
     record {
       holds = h;
-      routes_are = links ∙ (s.routes_are ∙ sym (routes-append log e n ∙ ap (routes_after (routes log n)) no_step));
+      routes_are = links ∙ (s.routes_are ∙ sym no_step.routes_stay);
       told = ap (map (channel_of r.channels.items)) subs
-          ∙ (s.told ∙ sym (subscribers-append log e n ∙ (ap (λ l. subscribers log n ++ flat_map subscriber_of l) no_step ∙ append-nil (subscribers log n))));
+          ∙ (s.told ∙ sym no_step.subscribers_stay);
       registered = s.registered ∙ ap (map (λ (c : ℕ × ℕ). c.0)) (sym same);
       bound = bound ∙ (s.bound ∙ sym up);
       places = subst (λ k. HasPlaces k desk.binding) (ap (λ l. mailbox_size_at configs n + sum_capacities l) (sym same))

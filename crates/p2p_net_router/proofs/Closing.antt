@@ -5,6 +5,7 @@ use Rattle.std.specs.BTreeMap.{BTreeMap, get}
 use Rattle.std.specs.Ordering.{nat_cmp, is_eq}
 use Rattle.std.proofs.lemmas.Bool.Decides.{nat_tests}
 use Rattle.std.proofs.lemmas.Bool.{false≢true}
+use Rattle.p2p_log_rules.proofs.Bools.{or_false, or_true}
 use Rattle.p2p_base.specs.declared.key.Key.{Key}
 use Rattle.p2p_base.specs.Queue.{Queue as Waiting}
 use Rattle.p2p_flow.specs.Lanes.{Lanes, closed_lanes}
@@ -185,14 +186,6 @@ frames_closed peers less links conn c key l b gone known single linked idle =
 
 -- ---- which connections have ended
 
-or-true : (b : Bool) → (b || true) ≡ true
-or-true true = refl
-or-true false = refl
-
-or-false : (b : Bool) → (b || false) ≡ b
-or-false true = refl
-or-false false = refl
-
 -- another link's connection ends as before
 still_ended :
     (size : ℕ) (ended now : ℕ → Bool) (peers : BTreeMap ℕ Key) (conn : ℕ) (key j : Key) (m : Link) (said : List (Option ℕ))
@@ -200,7 +193,7 @@ still_ended :
     → AreClosed m.relay (ended m.conn) → IsLinked size peers j m said → now m.conn ≡ ended m.conn
 still_ended size ended now peers conn key j m said known is other c (open_link lanes at silent) =
     is m.conn
-    ∙ (ap (λ b. ended m.conn || b) (turned m.conn conn ∙ other_key peers conn m.conn key j known at other) ∙ or-false (ended m.conn))
+    ∙ (ap (λ b. ended m.conn || b) (turned m.conn conn ∙ other_key peers conn m.conn key j known at other) ∙ or_false (ended m.conn))
 still_ended size ended now peers conn key j m said known is other c (spent_link spent) =
     let over : ended m.conn ≡ true = sym c.high ∙ spent.high_closed in
     is m.conn ∙ (ap (λ b. b || (m.conn == conn)) over ∙ sym over)
@@ -216,7 +209,7 @@ ends_closed size ended now peers less links conn key said l gone known linked ow
         | true ↦ λ t.
             let same : Some (closed l) ≡ Some m = sym (link_closed links key j l true linked t) ∙ at in
             let it : closed l ≡ m = cc in
-            let over : now l.conn ≡ true = is l.conn ∙ (ap (λ b. ended l.conn || b) (same_conn l.conn conn own) ∙ or-true (ended l.conn)) in
+            let over : now l.conn ≡ true = is l.conn ∙ (ap (λ b. ended l.conn || b) (same_conn l.conn conn own) ∙ or_true (ended l.conn)) in
             subst (λ (x : Link). AreClosed x.relay (now x.conn)) it (record { high = sym over; low = sym over })
         | false ↦ λ t.
             let old : link_of key_cmp links j ≡ Some m = sym (link_closed links key j l false linked t) ∙ at in

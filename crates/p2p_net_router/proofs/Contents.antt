@@ -30,8 +30,8 @@ use Rattle.p2p_log_rules.specs.declared.row.Row.{Row}
 use Rattle.p2p_log.specs.QueueCode.{same_queue}
 use Rattle.p2p_log.specs.Lines.{name_of, ended_item, stays, placed, live, stands_in}
 use Rattle.p2p_log_rules.specs.Connections.{is_ended}
-use Rattle.p2p_log_rules.specs.Facts.{subscribers, with_route, routes}
-use Rattle.p2p_log_rules.proofs.Routing.{subscriber_of}
+use Rattle.p2p_log_rules.specs.Facts.{wants_lists, subscribers, with_route, routes}
+use Rattle.p2p_log_rules.specs.Routed.{routed_tells}
 use Rattle.p2p_log_rules.specs.Effect.{mailbox_size_at, route_row, Spread, goes_to, relay_queue, spread, row_of_spread}
 use Rattle.p2p_log.specs.Apart.{AreApart}
 use Rattle.p2p_log.proofs.Names.{AreApart-live_from, filter_stays-first}
@@ -273,7 +273,7 @@ routed_content configs log entry old desk actor names row encoded rs s answered 
             (λ b conn. ap (λ l. map frame_item (frames_of old.peers l b conn)) links_now ∙ done.going.frames b conn);
       };
       routes_now = ap routes_in links_now ∙ (done.going.routes_are ∙ ap (with_route (routes log n)) (sym it));
-      told_now = ap (map (channel_of old.channels.items)) subs_now ∙ (s.told ∙ (sym (append-nil (subscribers log n)) ∙ ap (λ i. subscribers log n ++ subscriber_of i) (sym it)));
+      told_now = ap (map (channel_of old.channels.items)) subs_now ∙ (s.told ∙ (sym (append-nil (subscribers log n)) ∙ ap (λ i. subscribers log n ++ flat_map (wants_lists n) (routed_tells n i)) (sym it)));
       binding = t.binding;
       ended = subst (AreEnded ended old.peers) (sym links_now) done.going.ends;
       adds = λ q other. copied_adds n entry x f.rest (live log) spread_now row q other apart f.is row_now (copies_ends n send 0 encoded.payload rs start);

@@ -7,7 +7,7 @@ use Rattle.p2p_router.specs.declared.link.Link.{Link}
 use Rattle.p2p_log.specs.declared.config.Config.{Config}
 use Rattle.p2p_log.specs.declared.entry.Entry.{Entry}
 use Rattle.p2p_log_rules.specs.Connections.{ends_connection, is_ended}
-pub use Rattle.p2p_log_rules.proofs.Connections.{is_ended-append, is_ended-kept, is_ended-none, ends_none-act}
+pub use Rattle.p2p_log_rules.proofs.Connections.{is_ended-append, is_ended-kept, is_ended-none, ends_untold, ends_none-act}
 use Rattle.p2p_net_router.specs.Ends.{AreEnded}
 use Rattle.p2p_net_router.specs.Stands.{IsEnding}
 
@@ -21,7 +21,7 @@ ended_same f g peers links same h = record {
 
 pub ended_beside :
     (log : List Entry) (e : Entry) (n : ℕ) (peers : BTreeMap ℕ Key) (links : List (Key × Link))
-    → ((conn : ℕ) → ends_connection n conn e ≡ false) → AreEnded (is_ended log n) peers links → AreEnded (is_ended (log ++ e ∷ []) n) peers links
+    → ((conn : ℕ) → ends_connection n conn log e ≡ false) → AreEnded (is_ended log n) peers links → AreEnded (is_ended (log ++ e ∷ []) n) peers links
 ended_beside log e n peers links none h = ended_same (is_ended log n) (is_ended (log ++ e ∷ []) n) peers links (λ c. is_ended-kept log e n c (none c)) h
 
 -- the connection that an entry ends has ended, and the others as before

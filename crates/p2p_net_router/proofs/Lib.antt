@@ -40,3 +40,4 @@ pub mod Taken
 pub mod Taking
 pub mod Told
 pub mod Turns
+pub mod Unrouted

@@ -22,8 +22,8 @@ use Rattle.p2p_log.specs.declared.entry.Entry.{Entry}
 use Rattle.p2p_log_rules.specs.declared.row.Row.{Row}
 use Rattle.p2p_log.specs.Lines.{name_of, stays, live}
 use Rattle.p2p_log_rules.specs.Connections.{is_ended}
-use Rattle.p2p_log_rules.specs.Facts.{subscribers, with_route, routes, keys_in}
-use Rattle.p2p_log_rules.proofs.Routing.{subscriber_of}
+use Rattle.p2p_log_rules.specs.Facts.{wants_lists, subscribers, with_route, routes, keys_in}
+use Rattle.p2p_log_rules.specs.Routed.{routed_tells}
 use Rattle.p2p_log_rules.specs.Effect.{mailbox_size_at, route_row}
 use Rattle.p2p_log.proofs.Names.{AreApart-live_from}
 use Rattle.p2p_net_queues.specs.declared.board.Board.{Board}
@@ -129,7 +129,7 @@ routed_release configs log entry old desk actor names row peer told s answered a
             (λ b c. ap (λ l. frames_of old.peers l b c) links_now ∙ frames_remove old.peers old.actor.links peer (said_of peer (later_messages old)) b c rising own);
       };
       routes_now = ap routes_in links_now ∙ (routes_now ∙ ap (with_route (routes log n)) (sym it));
-      told_now = ap (map (channel_of channels)) subs_now ∙ (s.told ∙ (sym (append-nil (subscribers log n)) ∙ ap (λ i. subscribers log n ++ subscriber_of i) (sym it)));
+      told_now = ap (map (channel_of channels)) subs_now ∙ (s.told ∙ (sym (append-nil (subscribers log n)) ∙ ap (λ i. subscribers log n ++ flat_map (wants_lists n) (routed_tells n i)) (sym it)));
       binding = t.binding;
       ended = subst (AreEnded (is_ended log n) old.peers) (sym links_now) (ends_remove (is_ended log n) old.peers old.actor.links peer rising s.ended);
       adds = λ q other. told_adds n entry x f.rest (live log) [] (keys_of links) (map (channel_of channels) subs) row q other step.distinct step.apart f.is row_now;

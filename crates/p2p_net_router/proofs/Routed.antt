@@ -1,9 +1,9 @@
 -- The router after a step that took a message stands for the log with one more entry.
-use Rattle.std.proofs.Common.{◌≡◌, ℕ, ◌+◌, Bool, true, false, cond, List, [], ◌∷◌, ◌++◌, length, refl, ap, sym, subst, ◌∙◌, arith, append-nil}
-use Rattle.std.specs.Prelude.{filter, flat_map, map, ◌==◌, ◌||◌}
+use Rattle.std.proofs.Common.{◌≡◌, ℕ, ◌+◌, Bool, true, false, List, [], ◌∷◌, ◌++◌, length, refl, ap, sym, subst, ◌∙◌, append-nil}
+use Rattle.std.specs.Prelude.{filter, flat_map, map, ◌||◌}
 use Rattle.std.specs.List.{AllByRecursion}
-use Rattle.std.proofs.lemmas.Bool.Decides.{nat_tests}
 use Rattle.std.proofs.lemmas.Bool.{false≢true}
+use Rattle.p2p_log_rules.proofs.Bools.{or_false}
 use Rattle.p2p_base.specs.declared.key.Key.{Key}
 use Rattle.p2p_base.specs.Queue.{without_oldest}
 use Rattle.p2p_router.specs.Routes.{Routes}
@@ -14,7 +14,6 @@ use Rattle.p2p_router.specs.declared.messenger.Binding.TheVariants.{Unbound, Bou
 use Rattle.p2p_log.specs.declared.config.Config.{Config}
 use Rattle.p2p_log.specs.declared.queue.Queue.{Queue}
 use Rattle.p2p_log.specs.declared.queue.Queue.TheVariants as queue
-use Rattle.p2p_log.specs.declared.item.Item.{Item}
 use Rattle.p2p_log.specs.declared.item.Envelope.{Envelope}
 use Rattle.p2p_log.specs.declared.entry.Entry.{Entry}
 use Rattle.p2p_log.specs.declared.entry.Reply.TheVariants as reply
@@ -23,11 +22,11 @@ use Rattle.p2p_log.specs.declared.event.Act.TheVariants as act
 use Rattle.p2p_log_rules.specs.declared.row.Row.{Row}
 use Rattle.p2p_log.specs.Lines.{name_of, stays, placed, live, line, stands_in}
 use Rattle.p2p_log_rules.specs.Connections.{is_ended}
-use Rattle.p2p_log_rules.specs.Facts.{starts, is_up, registers_at, channels, item_named, taken, steps_router, routed_by, subscribers, with_route, routes, sum_capacities}
-use Rattle.p2p_log_rules.proofs.Routing.{subscriber_of, routes_after}
+use Rattle.p2p_log_rules.specs.Facts.{starts, is_up, registers_at, channels, item_named, taken, wants_lists, subscribers, with_route, routes, sum_capacities}
+use Rattle.p2p_log_rules.specs.Routed.{routed_tells}
 use Rattle.p2p_log_rules.specs.Effect.{only, entry_of, mailbox_size_at, router_capacity, route_row, route_oldest}
 use Rattle.p2p_log_rules.proofs.Channels.{channels-append, is_up-append}
-use Rattle.p2p_log_rules.proofs.Facts.{subscribers-append, routes-append}
+use Rattle.p2p_log_rules.proofs.Routing.{subscribers-routed, routes-routed}
 use Rattle.p2p_log.proofs.Lines.{live-append, filter_stays-nil}
 use Rattle.p2p_log_rules.proofs.Recorded.{item_named-first}
 use Rattle.p2p_net_queues.specs.declared.board.Board.{Board}
@@ -37,12 +36,13 @@ use Rattle.p2p_net_router.specs.Items.{key_cmp, messages_in}
 use Rattle.p2p_net_router.specs.Sound.{IsSound, IsProper, IsInTurn, said_of, subscription_in, numbers_from}
 use Rattle.p2p_net_router.specs.Ends.{AreEnded}
 use Rattle.p2p_net_router.specs.Holds.{Holds, after, routes_in, channels_told, Adds}
-use Rattle.p2p_net_router.specs.Stands.{StandsFor, HasPlaces}
+use Rattle.p2p_net_router.specs.Stands.{RoutesNothing, StandsFor, HasPlaces}
 use Rattle.p2p_net_router.specs.declared.router.Router.{Router}
 use Rattle.p2p_net_router.specs.declared.name.Name.{Name}
-use Rattle.p2p_net_router.proofs.Endings.{ends_none-act, ended_beside}
+use Rattle.p2p_net_router.proofs.Endings.{ends_untold, ended_beside}
 use Rattle.p2p_net_router.proofs.Rings.{IsTold}
 use Rattle.p2p_net_router.proofs.Told.{stepped_to}
+use Rattle.p2p_net_router.proofs.Unrouted.{unrouted_untaken}
 
 -- ---- what the router keeps true of itself
 
@@ -86,24 +86,12 @@ taken-none : (log : List Entry) (e : Entry) → e.takes ≡ [] → taken log e �
 unfolding taken
 taken-none log e t = ap (flat_map (item_named log)) t
 
-same_number : (n : ℕ) → (n == n) ≡ true
-same_number n = grind (arith, nat_tests)
-
--- what the router took by a step of its own
-routed_here : (n : ℕ) (log : List Entry) (e : Entry) (items : List Item) → e.event.act ≡ act.Router n → taken log e ≡ items → routed_by n log e ≡ items
-routed_here n log e items is took =
-    ap (λ a. cond (steps_router n a) (taken log e) []) is ∙ (ap (λ b. cond b (taken log e) []) (same_number n) ∙ took)
-
-or-false : (b : Bool) → (b || false) ≡ b
-or-false true = refl
-or-false false = refl
-
 channels_kept : (configs : List Config) (log : List Entry) (e : Entry) (n : ℕ) → e.event.act ≡ act.Router n → channels configs (log ++ e ∷ []) n ≡ channels configs log n
 channels_kept configs log e n is =
     channels-append configs log e n ∙ (ap (λ a. channels configs log n ++ registers_at configs n a) is ∙ append-nil (channels configs log n))
 
 up_kept : (log : List Entry) (e : Entry) (n : ℕ) → e.event.act ≡ act.Router n → is_up (log ++ e ∷ []) n ≡ is_up log n
-up_kept log e n is = is_up-append log e n ∙ (ap (λ a. is_up log n || starts n a) is ∙ or-false (is_up log n))
+up_kept log e n is = is_up-append log e n ∙ (ap (λ a. is_up log n || starts n a) is ∙ or_false (is_up log n))
 
 places_taken : (k : ℕ) (b : Binding Key) → HasPlaces k b → HasPlaces k (in_mailbox without_oldest b)
 places_taken k Unbound h = h
@@ -119,7 +107,7 @@ pub record IsRouted (configs : List Config) (log : List Entry) (entry : ℕ) (ol
   pub takes : row.takes ≡ name_of x ∷ []
   pub holds : Holds (mailbox_size_at configs old.number) (stepped_to old desk actor names) (after entry row (live log))
   pub routes_now : routes_in actor.links ≡ with_route (routes log old.number) x.item
-  pub told_now : channels_told (stepped_to old desk actor names) ≡ subscribers log old.number ++ subscriber_of x.item
+  pub told_now : channels_told (stepped_to old desk actor names) ≡ subscribers log old.number ++ flat_map (wants_lists old.number) (routed_tells old.number x.item)
   pub binding : desk.binding ≡ in_mailbox without_oldest old.messenger.binding
   pub ended : AreEnded (is_ended log old.number) old.peers actor.links
   pub adds : (q : Queue) → is_routers old.number q ≡ false → Adds entry row (live log) q
@@ -138,22 +126,19 @@ pub routed_stands :
 routed_stands configs log entry event old desk actor names row s at is h =
     let n = old.number in
     let e = entry_of event row in
-    let took : routed_by n log e ≡ h.x.item ∷ [] = routed_here n log e (h.x.item ∷ []) is (taken-first log e (queue.Router n) h.x h.rest (line_is log (queue.Router n) ∙ h.first) h.takes) in
+    let took : taken log e ≡ h.x.item ∷ [] = taken-first log e (queue.Router n) h.x h.rest (line_is log (queue.Router n) ∙ h.first) h.takes in
     let same = channels_kept configs log e n is in
     record {
       holds = subst (Holds (mailbox_size_at configs n) (stepped_to old desk actor names))
           (ap (λ k. filter (stays (row_goes row)) (live log) ++ placed k 0 row.puts) (sym at) ∙ sym (live-append log e)) h.holds;
-      routes_are = h.routes_now ∙ sym (routes-append log e n ∙ ap (routes_after (routes log n)) took);
-      told = h.told_now
-          ∙ sym
-          (subscribers-append log e n
-          ∙ (ap (λ l. subscribers log n ++ flat_map subscriber_of l) took ∙ ap (λ l. subscribers log n ++ l) (append-nil (subscriber_of h.x.item))));
+      routes_are = h.routes_now ∙ sym (routes-routed log e n is h.x.item took);
+      told = h.told_now ∙ sym (subscribers-routed log e n is h.x.item took);
       registered = s.registered ∙ ap (map (λ (c : ℕ × ℕ). c.0)) (sym same);
       bound = ap is_bound h.binding ∙ (bound_taken old.messenger.binding ∙ (s.bound ∙ sym (up_kept log e n is)));
       places = subst (λ b. HasPlaces (router_capacity configs (log ++ e ∷ []) n) b) (sym h.binding)
           (places_taken (router_capacity configs (log ++ e ∷ []) n) old.messenger.binding
           (subst (λ k. HasPlaces k old.messenger.binding) (ap (λ l. mailbox_size_at configs n + sum_capacities l) (sym same)) s.places));
-      ended = ended_beside log e n old.peers actor.links (λ conn. ends_none-act e n conn (act.Router n) is refl) h.ended;
+      ended = ended_beside log e n old.peers actor.links (λ conn. ends_untold log e n conn (act.Router n) is refl) h.ended;
       works = h.works ∙ s.works;
     }
 
@@ -165,7 +150,7 @@ pub idle_stands :
 idle_stands configs log entry event r row s is idle =
     let n = r.number in
     let e = entry_of event row in
-    let took : routed_by n log e ≡ [] = routed_here n log e [] is (taken-none log e (ap (λ (y : Row). y.takes) idle)) in
+    let quiet : RoutesNothing log e n = unrouted_untaken log e n (taken-none log e (ap (λ (y : Row). y.takes) idle)) in
     let same = channels_kept configs log e n is in
     let kept : live (log ++ e ∷ []) ≡ live log =
     live-append log e
@@ -174,11 +159,11 @@ idle_stands configs log entry event r row s is idle =
     in
     record {
       holds = subst (Holds (mailbox_size_at configs n) r) (sym kept) s.holds;
-      routes_are = s.routes_are ∙ sym (routes-append log e n ∙ ap (routes_after (routes log n)) took);
-      told = s.told ∙ sym (subscribers-append log e n ∙ (ap (λ l. subscribers log n ++ flat_map subscriber_of l) took ∙ append-nil (subscribers log n)));
+      routes_are = s.routes_are ∙ sym quiet.routes_stay;
+      told = s.told ∙ sym quiet.subscribers_stay;
       registered = s.registered ∙ ap (map (λ (c : ℕ × ℕ). c.0)) (sym same);
       bound = s.bound ∙ sym (up_kept log e n is);
       places = subst (λ k. HasPlaces k r.messenger.binding) (ap (λ l. mailbox_size_at configs n + sum_capacities l) (sym same)) s.places;
-      ended = ended_beside log e n r.peers r.actor.links (λ conn. ends_none-act e n conn (act.Router n) is refl) s.ended;
+      ended = ended_beside log e n r.peers r.actor.links (λ conn. ends_untold log e n conn (act.Router n) is refl) s.ended;
       works = s.works;
     }

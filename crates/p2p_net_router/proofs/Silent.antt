@@ -7,6 +7,7 @@ use Rattle.std.specs.Ordering.{nat_cmp}
 use Rattle.std.proofs.lemmas.Bool.Decides.{nat_tests}
 use Rattle.std.proofs.lemmas.Bool.{false≢true}
 use Rattle.std.proofs.lemmas.List.Folds.{list_any-append}
+use Rattle.p2p_log_rules.proofs.Bools.{or_true}
 use Rattle.p2p_base.specs.declared.key.Key.{Key}
 use Rattle.p2p_router.specs.Routing.{link_of}
 use Rattle.p2p_router.specs.declared.link.Link.{Link}
@@ -30,10 +31,6 @@ use Rattle.p2p_net_router.proofs.Building.{own_peers as own_queue}
 use Rattle.p2p_net_router.proofs.Idle.{names_conn, ready_bare}
 use Rattle.p2p_net_router.proofs.Linking.{conn_in, route_to-link}
 use Rattle.p2p_net_router.proofs.Turns.{IsLinked, open_link, spent_link, linked_as}
-
-or-true : (b : Bool) → (b || true) ≡ true
-or-true true = refl
-or-true false = refl
 
 same_conn : (c : ℕ) → (c == c) ≡ true
 same_conn c = grind (arith, nat_tests)
@@ -64,7 +61,7 @@ said_known size peers key (Some l) (Some d ∷ said) c t h = absurd t
 -- what is said later is said
 said_later : (key : Key) (c : ℕ) (m : Message Key) (ms : List (Message Key)) → list_any (names_conn c) (said_of key ms) ≡ true → list_any (names_conn c) (said_of key (m ∷ ms)) ≡ true
 said_later key c m ms h =
-    list_any-append (names_conn c) (says key m) (said_of key ms) ∙ (ap (λ b. list_any (names_conn c) (says key m) || b) h ∙ or-true (list_any (names_conn c) (says key m)))
+    list_any-append (names_conn c) (says key m) (said_of key ms) ∙ (ap (λ b. list_any (names_conn c) (says key m) || b) h ∙ or_true (list_any (names_conn c) (says key m)))
 
 said_now : (key : Key) (c : ℕ) (m : Message Key) (ms : List (Message Key)) → list_any (names_conn c) (says key m) ≡ true → list_any (names_conn c) (said_of key (m ∷ ms)) ≡ true
 said_now key c m ms h = list_any-append (names_conn c) (says key m) (said_of key ms) ∙ ap (λ b. b || list_any (names_conn c) (said_of key ms)) h

@@ -30,9 +30,10 @@ use Rattle.p2p_log.specs.declared.event.Event.{Event}
 use Rattle.p2p_log.specs.declared.event.Act.TheVariants as act
 use Rattle.p2p_log.specs.Lines.{name_of, stays, live, line, stands_in}
 use Rattle.p2p_log_rules.specs.Connections.{is_ended}
-use Rattle.p2p_log_rules.specs.Facts.{subscribers, with_route, routes, keys_in}
-use Rattle.p2p_log_rules.proofs.Routing.{subscriber_of}
-use Rattle.p2p_log_rules.specs.Effect.{only, entry_of, mailbox_size_at, route_row}
+use Rattle.p2p_log_rules.specs.Facts.{subscribers, with_route, routes, keys_in, wants_lists}
+use Rattle.p2p_log_rules.proofs.Routing.{wants_lists-item}
+use Rattle.p2p_log_rules.specs.Effect.{only, entry_of, mailbox_size_at, ready_row, route_row}
+use Rattle.p2p_log_rules.specs.Routed.{routed_tells}
 use Rattle.p2p_log.proofs.Names.{AreApart-live_from}
 use Rattle.p2p_net_queues.specs.declared.board.Board.{Board}
 use Rattle.p2p_net_queues.specs.Board.{held}
@@ -175,7 +176,8 @@ routed_ready configs log entry old desk actor names row peer conn replaced told 
       row_is = row_now
           ∙ (ap (λ ks. told_row n x (live log) puts ks (map (channel_of channels) subs)) (sym (keys_in-links links) ∙ ap keys_in routes_now)
           ∙ (ap (told_row n x (live log) puts (keys_in (with_route (routes log n) (item.Ready conn peer)))) s.told
-          ∙ ap (λ i. route_row configs log n (name_of x) i (filter (stays (name_of x ∷ [])) (live log))) (sym it)));
+          ∙ (ap (λ b. ready_row log n (name_of x) conn peer b (filter (stays (name_of x ∷ [])) (live log))) (sym (s.ended.known conn peer own.known))
+          ∙ ap (λ i. route_row configs log n (name_of x) i (filter (stays (name_of x ∷ [])) (live log))) (sym it))));
       takes = ap (λ (r : Row). r.takes) row_now;
       holds = record {
         sound = sound_stepped size old desk actor names (keys_of links) subs sound (bound_first old.messenger.binding m w.is) t proper.1
@@ -187,7 +189,7 @@ routed_ready configs log entry old desk actor names row peer conn replaced told 
             (λ b c. ap (λ l. frames_of old.peers l b c) links_now ∙ frames_insert size old.peers old.actor.links peer conn b c none);
       };
       routes_now = ap routes_in links_now ∙ (routes_now ∙ ap (with_route (routes log n)) (sym it));
-      told_now = ap (map (channel_of channels)) subs_now ∙ (s.told ∙ (sym (append-nil (subscribers log n)) ∙ ap (λ i. subscribers log n ++ subscriber_of i) (sym it)));
+      told_now = ap (map (channel_of channels)) subs_now ∙ (s.told ∙ (sym (append-nil (subscribers log n)) ∙ ap (λ i. subscribers log n ++ flat_map (wants_lists n) (routed_tells n i)) (sym it)));
       binding = t.binding;
       ended = subst (AreEnded (is_ended log n) old.peers) (sym links_now) (ends_insert size (is_ended log n) old.peers old.actor.links peer conn own.known s.ended);
       adds = λ q other. told_adds n entry x f.rest (live log) puts (keys_of links) (map (channel_of channels) subs) row q other step.distinct step.apart f.is row_now;
@@ -275,7 +277,8 @@ routed_subscription configs log entry old desk actor names row number told s ans
       };
       routes_now = ap routes_in links_now ∙ (s.routes_are ∙ ap (with_route (routes log n)) (sym it));
       told_now = ap (map (channel_of channels)) subs_now
-          ∙ (map-append (channel_of channels) subs one ∙ (ap (λ l. l ++ c ∷ []) s.told ∙ ap (λ i. subscribers log n ++ subscriber_of i) (sym it)));
+          ∙ (map-append (channel_of channels) subs one ∙ (ap (λ l. l ++ c ∷ []) s.told
+          ∙ (ap (λ l. subscribers log n ++ l) (sym (wants_lists-item n c)) ∙ ap (λ i. subscribers log n ++ flat_map (wants_lists n) (routed_tells n i)) (sym it))));
       binding = t.binding;
       ended = subst (AreEnded (is_ended log n) old.peers) (sym links_now) s.ended;
       adds = λ q other. told_adds n entry x f.rest (live log) [] (keys_of links) (c ∷ []) row q other step.distinct step.apart f.is row_now;

@@ -20,21 +20,22 @@ use Rattle.p2p_log.specs.declared.queue.Queue.{Queue}
 use Rattle.p2p_log.specs.declared.queue.Queue.TheVariants as queue
 use Rattle.p2p_log.specs.declared.item.Item.TheVariants as item
 use Rattle.p2p_log.specs.Lines.{live_from, live, ended_item, stays, placed}
-use Rattle.p2p_log_rules.specs.Facts.{starts, is_up, capacity_for, registers_at, rates, channels, state_from, capacity_in, taken, steps_router, routed_by, subscribers, routes}
-use Rattle.p2p_log_rules.proofs.Routing.{subscriber_of, routes_after}
+use Rattle.p2p_log_rules.specs.Facts.{starts, is_up, capacity_for, with_capacity, registers_at, rates, channels, state_from, capacity_in, subscribers, routes}
 use Rattle.p2p_log_rules.specs.Effect.{mailbox_size_at, router_capacity}
 use Rattle.p2p_log_rules.specs.Told.{told}
 use Rattle.p2p_log_rules.proofs.Channels.{channels-append, is_up-append}
-use Rattle.p2p_log_rules.proofs.Facts.{subscribers-append, routes-append}
+use Rattle.p2p_log_rules.proofs.Families.{kinds_of, are_apart}
+use Rattle.p2p_log_rules.proofs.Routing.{route_kinds}
 use Rattle.p2p_log.proofs.Lines.{live-append, filter_stays-nil}
 use Rattle.p2p_net_queues.specs.Board.{held}
 use Rattle.p2p_net_router.specs.Items.{key_cmp, lists_in, message_item, messages_in, frame_item, frames_in, link_to, items_of, channel_of}
 use Rattle.p2p_net_router.specs.Sound.{IsSound, IsRing, IsProper, IsAwaited, IsInTurn, IsNumber, AreDistinct, said_of, subscription_in, numbers_from}
 use Rattle.p2p_net_router.specs.Holds.{Holds, routes_in}
-use Rattle.p2p_net_router.specs.Stands.{StandsFor, HasPlaces, IsRegistration}
+use Rattle.p2p_net_router.specs.Stands.{RoutesNothing, StandsFor, HasPlaces, IsRegistration}
 use Rattle.p2p_net_router.specs.declared.router.Router.{Router}
-use Rattle.p2p_net_router.proofs.Endings.{ends_none-act, ended_beside}
+use Rattle.p2p_net_router.proofs.Endings.{ends_untold, ended_beside}
 use Rattle.p2p_net_router.proofs.Started.{is_none}
+use Rattle.p2p_net_router.proofs.Unrouted.{unrouted_apart}
 
 -- ---- nothing
 
@@ -254,9 +255,9 @@ subscribed_stands configs log e r new d s g h absent =
     ∙ (ap (λ x. filter (stays (flat_map ended_item x)) (live log) ++ placed (length log) 0 e.puts) g.ends
     ∙ (ap (λ p. filter (stays []) (live log) ++ placed (length log) 0 p) g.puts ∙ (append-nil (filter (stays []) (live log)) ∙ filter_stays-nil (live log)))))
     in
-    let took : routed_by n log e ≡ [] = ap (λ x. cond (steps_router n x) (taken log e) []) g.is in
+    let quiet : RoutesNothing log e n = unrouted_apart log e n (ap (λ a. are_apart (kinds_of a) route_kinds) g.is) in
     let here : registers_at configs n e.event.act ≡ (d, capacity_for (slice_get configs n) g.rate) ∷ [] =
-    ap (registers_at configs n) g.is ∙ ap (λ b. cond b ((d, capacity_for (slice_get configs n) g.rate) ∷ []) []) (same_number n)
+    ap (registers_at configs n) g.is ∙ ap (λ b. map (with_capacity configs n) (cond b ((d, g.rate) ∷ []) [])) (same_number n)
     in
     let channels_now : channels configs (log ++ e ∷ []) n ≡ channels configs log n ++ (d, capacity_for (slice_get configs n) g.rate) ∷ [] =
     channels-append configs log e n ∙ ap (λ l. channels configs log n ++ l) here
@@ -269,10 +270,10 @@ subscribed_stands configs log e r new d s g h absent =
         names = s.holds.names;
         each = λ q own. items_same size r new d s.holds.sound h q ∙ s.holds.each q own;
       });
-      routes_are = s.routes_are ∙ sym (routes-append log e n ∙ ap (routes_after (routes log n)) took);
+      routes_are = s.routes_are ∙ sym quiet.routes_stay;
       told = ap (map (channel_of new.channels.items)) early
           ∙ (sym (ap (map (channel_of r.channels.items)) early)
-          ∙ (s.told ∙ sym (subscribers-append log e n ∙ (ap (λ l. subscribers log n ++ flat_map subscriber_of l) took ∙ append-nil (subscribers log n)))));
+          ∙ (s.told ∙ sym quiet.subscribers_stay));
       registered = h.more
           ∙ (ap (λ l. l ++ d ∷ []) s.registered
           ∙ (sym (map-append (λ (c : ℕ × ℕ). c.0) (channels configs log n) ((d, capacity_for (slice_get configs n) g.rate) ∷ [])) ∙ ap (map (λ (c : ℕ × ℕ). c.0)) (sym channels_now)));
@@ -282,7 +283,7 @@ subscribed_stands configs log e r new d s g h absent =
           ∙ (or-false (is_up log n)
           ∙ (ap (λ x. is_up log n || starts n x) (sym g.is) ∙ sym (is_up-append log e n)))));
       places = subst (λ (m : Desk Key). HasPlaces (router_capacity configs (log ++ e ∷ []) n) m.binding) (sym h.desk) tt;
-      ended = ended_beside log e n r.peers r.actor.links (λ conn. ends_none-act e n conn (act.Register d n g.rate) g.is refl) s.ended;
+      ended = ended_beside log e n r.peers r.actor.links (λ conn. ends_untold log e n conn (act.Register d n g.rate) g.is refl) s.ended;
       works = s.works;
     })
 

@@ -2,7 +2,6 @@
 use Rattle.std.specs.Prelude.{ℕ, Bool, true, false, ◌==◌, cond, List, [], ◌∷◌, map, Option, Some, None, slice_index_or}
 use Rattle.std.specs.BTreeMap.{BTreeMap, get}
 use Rattle.std.specs.Ordering.{nat_cmp}
-use Rattle.std.specs.declared.cmp.Ordering.{Ordering}
 use Rattle.p2p_base.specs.Queue.{Queue as Waiting}
 use Rattle.p2p_base.specs.declared.key.Key.{Key}
 use Rattle.p2p_flow.specs.Lanes.{lane}
@@ -19,11 +18,8 @@ use Rattle.p2p_log.specs.declared.queue.Queue.{Queue}
 use Rattle.p2p_log.specs.declared.queue.Queue.TheVariants as queue
 use Rattle.p2p_log.specs.declared.item.Item.{Item}
 use Rattle.p2p_log.specs.declared.item.Item.TheVariants as item
+pub use Rattle.p2p_log.specs.Keys.{key_cmp}
 use Rattle.p2p_net_router.specs.declared.router.Router.{Router}
-
--- the order of keys
-abbrev pub key_cmp : Key → Key → Ordering
-key_cmp a b = nat_cmp a.0 b.0
 
 -- the keys that are named
 abbrev pub named_keys : Recipients Key → List Key

@@ -18,7 +18,7 @@ use Rattle.p2p_log.specs.declared.event.Rate.{Rate}
 use Rattle.p2p_log.specs.declared.event.Act.TheVariants as act
 use Rattle.p2p_log.specs.Lines.{live}
 use Rattle.p2p_log_rules.specs.Connections.{ends_connection, is_ended}
-use Rattle.p2p_log_rules.specs.Facts.{channels, is_up, registers_at, starts, routed_by, routes, subscribers}
+use Rattle.p2p_log_rules.specs.Facts.{channels, is_up, registers_at, starts, routes, subscribers}
 use Rattle.p2p_log_rules.specs.Effect.{mailbox_size_at, router_capacity}
 use Rattle.p2p_net_router.specs.Ends.{AreEnded}
 use Rattle.p2p_net_router.specs.Holds.{Holds, routes_in, channels_told}
@@ -38,12 +38,17 @@ pub record IsRegistration (e : Entry) (n channel : ℕ) : Type 0 where
   pub puts : e.puts ≡ []
   pub ends : e.ends ≡ []
 
+-- the entry leaves alone what a node's router has of its connections, and which channels want lists of peers
+pub record RoutesNothing (log : List Entry) (e : Entry) (n : ℕ) : Type 0 where
+  pub routes_stay : routes (log ++ e ∷ []) n ≡ routes log n
+  pub subscribers_stay : subscribers (log ++ e ∷ []) n ≡ subscribers log n
+
 -- the entry is none of the steps of a node's router, of its registrations and of its starts, and ends none of its connections
 pub record IsBeside (configs : List Config) (log : List Entry) (e : Entry) (n : ℕ) : Type 0 where
-  pub no_step : routed_by n log e ≡ []
+  pub no_step : RoutesNothing log e n
   pub no_channel : registers_at configs n e.event.act ≡ []
   pub no_start : starts n e.event.act ≡ false
-  pub no_end : (conn : ℕ) → ends_connection n conn e ≡ false
+  pub no_end : (conn : ℕ) → ends_connection n conn log e ≡ false
 
 -- none of these puts goes to the queue
 abbrev pub AreAway : Queue → List (Queue × Item) → Type 0
@@ -62,10 +67,10 @@ pub record IsReadied (e : Entry) (n place conn : ℕ) (key : Key) : Type 0 where
 -- the entry ends this connection of a node and no other, and is none of its router's steps, of its registrations and of its starts:
 -- it puts first that the key is released, and nothing else for the router
 pub record IsEnding (configs : List Config) (log : List Entry) (e : Entry) (n conn : ℕ) (key : Key) : Type 0 where
-  pub no_step : routed_by n log e ≡ []
+  pub no_step : RoutesNothing log e n
   pub no_channel : registers_at configs n e.event.act ≡ []
   pub no_start : starts n e.event.act ≡ false
-  pub ends : (c : ℕ) → ends_connection n c e ≡ (c == conn)
+  pub ends : (c : ℕ) → ends_connection n c log e ≡ (c == conn)
   pub rest : List (Queue × Item)
   pub puts : e.puts ≡ (queue.Router n, item.Release key) ∷ rest
   pub away : (q : Queue) → is_routers n q ≡ true → AreAway q rest

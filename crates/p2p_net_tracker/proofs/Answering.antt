@@ -5,6 +5,7 @@ use Rattle.std.specs.BTreeMap.{is_at}
 use Rattle.std.specs.Ordering.{nat_cmp}
 use Rattle.std.proofs.lemmas.Bool.Decides.{nat_tests}
 use Rattle.std.proofs.lemmas.Option.{slice_get_past}
+use Rattle.p2p_log_rules.proofs.Bools.{and_false, or_true}
 use Rattle.p2p_log.specs.declared.config.Config.{Config}
 use Rattle.p2p_log.specs.declared.queue.Queue.{Queue}
 use Rattle.p2p_log.specs.declared.queue.Queue.TheVariants as queue
@@ -21,9 +22,10 @@ use Rattle.p2p_log.proofs.QueueNames.{queue_from_same}
 use Rattle.p2p_log_rules.specs.declared.row.Row.{Row}
 use Rattle.p2p_log_rules.specs.Effect.{entry_of}
 use Rattle.p2p_log_rules.specs.Rows.{only}
-use Rattle.p2p_log_rules.specs.Handshakes.{handshakes_by, handshakes_of}
+use Rattle.p2p_log_rules.proofs.Families.{kinds_of, are_apart}
+use Rattle.p2p_log_rules.proofs.Handshakes.{handshake_kinds, handshakes_of-apart}
 use Rattle.p2p_log_rules.specs.Tracking.{asked_by, steps_tracker}
-use Rattle.p2p_log_rules.specs.TrackerRows.{answers, is_answer, was_answered, oldest_row, answer_at, answer_by, answer_row, next_by, next_row}
+use Rattle.p2p_log_rules.specs.TrackerRows.{takes_answer, is_peer_set, was_answered, oldest_row, answer_at, answer_by, answer_row, next_by, next_row}
 use Rattle.p2p_net_queues.specs.declared.board.Board.{Board}
 use Rattle.p2p_net_queues.specs.Board.{held}
 use Rattle.p2p_net_queues.specs.Tables as table
@@ -59,6 +61,7 @@ with_board configs log n t b s holds = record {
   size = s.size;
   names = s.names;
   messages = s.messages;
+  given_back = s.given_back;
   questions = s.questions;
   updates = s.updates;
   sets = s.sets;
@@ -75,17 +78,13 @@ with_board configs log n t b s holds = record {
   told = holds;
 }
 
-and_false : (b : Bool) → (b && false) ≡ false
-and_false true = refl
-and_false false = refl
-
 module _ (configs : List Config) (log : List Entry) (at seed n : ℕ) (a : Act) (t u : Tracker) (r : Row) (s : TrackerStands configs log n t) (no_step : steps_tracker n a ≡ false) (no_question : asks_of n a ≡ None)
-    (no_half : steps_half n a ≡ false) (no_admission : handshakes_by n log (entry_of (record { at = at; seed = seed; act = a }) r) (handshakes_of log n) ≡ handshakes_of log n) where
+    (no_half : steps_half n a ≡ false) (no_admission : are_apart (kinds_of a) handshake_kinds ≡ true) where
   abbrev e : Entry
   e = entry_of (record { at = at; seed = seed; act = a }) r
 
   -- it is answered with nothing
-  pub still_stands : (rep : Reply) → r ≡ only rep → ((d : ℕ) → answers d a rep ≡ false) → u ≡ record t { told = u.told } → ((p : Queue) → is_told n p ≡ true → held u.told p ≡ line log p)
+  pub still_stands : (rep : Reply) → r ≡ only rep → ((d : ℕ) → takes_answer d a rep ≡ false) → u ≡ record t { told = u.told } → ((p : Queue) → is_told n p ≡ true → held u.told p ≡ line log p)
       → TrackerStands configs (log ++ e ∷ []) n u
   still_stands rep is none same holds =
       let goes_none : goes e ≡ [] = ap (λ (k : Row). k.takes ++ flat_map ended_item k.ends) is in
@@ -95,10 +94,10 @@ module _ (configs : List Config) (log : List Entry) (at seed n : ℕ) (a : Act) 
       (tracker_frame configs log e n (record t { told = u.told }) (with_board configs log n t u.told s holds) (record {
         no_step = no_step;
         no_question = no_question;
-        no_answer = λ d asked. ap (λ (k : Row). answers d a k.reply) is ∙ none d;
-        no_late_answer = λ d past. ap (λ (k : Row). answers d a k.reply) is ∙ none d;
-        no_end = no_end-act n e no_half;
-        handshakes = no_admission;
+        no_answer = λ d asked. ap (λ (k : Row). takes_answer d a k.reply) is ∙ none d;
+        no_late_answer = λ d past. ap (λ (k : Row). takes_answer d a k.reply) is ∙ none d;
+        no_end = no_end-act n log e no_half;
+        handshakes = handshakes_of-apart log e n no_admission;
         mailbox = left (queue.Tracker n);
         told = λ q own. left q;
       }))
@@ -112,13 +111,13 @@ module _ (configs : List Config) (log : List Entry) (at seed n : ℕ) (a : Act) 
       by true is = let none : line log p ≡ [] = ap (line log) (queue_from_same q p is) ∙ empty in ap (drop 1) (s.told p here ∙ none) ∙ sym none
 
   -- the oldest item of a queue, with these questions answered then
-  pub read_stands : (q : Queue) (l : List Envelope) (answered : List (ℕ × Bool)) → line log q ≡ l → TellsAsker n q → r ≡ oldest_row reply.Pending l → ((d : ℕ) → answers d a reply.Pending ≡ false)
+  pub read_stands : (q : Queue) (l : List Envelope) (answered : List (ℕ × Bool)) → line log q ≡ l → TellsAsker n q → r ≡ oldest_row reply.Pending l → ((d : ℕ) → takes_answer d a reply.Pending ≡ false)
       → Pops q t u → u ≡ record t { told = u.told; answered = answered } → (l ≡ [] → answered ≡ t.answered)
       → ((d : ℕ) → asks_at log n d ≡ Some question.PeerSet → is_some (table.at answered d) ≡ was_answered (log ++ e ∷ []) d) → AreFresh (log ++ e ∷ []) answered → TrackerStands configs (log ++ e ∷ []) n u
   read_stands q [] answered empty asker is none pops same kept noted_all fresh =
       still_stands reply.Pending is none (same ∙ ap (λ m. record t { told = u.told; answered = m }) (kept refl)) (popped_none q pops asker.own empty)
   read_stands q (x ∷ rest) answered first asker is none pops same kept noted_all fresh =
-      tracker_read configs log e n t u q x rest answered s no_step no_question (no_end-act n e no_half) no_admission
+      tracker_read configs log e n t u q x rest answered s no_step no_question (no_end-act n log e no_half) (handshakes_of-apart log e n no_admission)
       (record { first = first; gone = ap (λ (k : Row). k.takes ++ flat_map ended_item k.ends) is }) (ap (λ (k : Row). k.puts) is) asker same noted_all fresh pops
 
 first_row : (held_there l : List Envelope) → held_there ≡ l → read_first (slice_get held_there 0) ≡ oldest_row reply.Pending l
@@ -127,10 +126,10 @@ first_row h (x ∷ l) is = ap (λ k. read_first (slice_get k 0)) is
 
 -- ---- the answer to a question for a peer set
 
-no_answer_pending : (d e : ℕ) → answers d (act.Answer e) reply.Pending ≡ false
+no_answer_pending : (d e : ℕ) → takes_answer d (act.Answer e) reply.Pending ≡ false
 no_answer_pending d e = and_false (e == d)
 
-no_answer_gone : (d e : ℕ) → answers d (act.Answer e) reply.Gone ≡ false
+no_answer_gone : (d e : ℕ) → takes_answer d (act.Answer e) reply.Gone ≡ false
 no_answer_gone d e = and_false (e == d)
 
 note_taken : (l : List (ℕ × Bool)) (was taken : Bool) (e d : ℕ) → is_some (table.at l d) ≡ was → is_some (table.at (noted taken e l) d) ≡ (was || ((e == d) && taken))
@@ -146,10 +145,6 @@ note_taken l was true e d h = ap is_some (lookup-insert_entry e d true l) ∙ by
 
     by : (b c : Bool) → b ≡ c → is_some (cond b (Some true) (table.at l d)) ≡ (was || (c && true))
     by true true k = sym (or_true was)
-      where
-        or_true : (w : Bool) → (w || true) ≡ true
-        or_true true = refl
-        or_true false = refl
     by false false k = h ∙ or_false was
       where
         or_false : (w : Bool) → w ≡ (w || false)
@@ -179,8 +174,8 @@ note_other l true e d h = lookup-insert_entry e d true l ∙ ap (λ b. cond b (S
     other : (e d : ℕ) → (e == d) ≡ false → is_at (nat_cmp d) e ≡ false
     other e d h = grind (arith, nat_tests)
 
-noted_empty : (l : List Envelope) (row : Row) (e : ℕ) (before : List (ℕ × Bool)) → row ≡ oldest_row reply.Pending l → l ≡ [] → noted (is_answer row.reply) e before ≡ before
-noted_empty l row e before is none = ap (λ (k : Row). noted (is_answer k.reply) e before) (is ∙ ap (oldest_row reply.Pending) none)
+noted_empty : (l : List Envelope) (row : Row) (e : ℕ) (before : List (ℕ × Bool)) → row ≡ oldest_row reply.Pending l → l ≡ [] → noted (is_peer_set row.reply) e before ≡ before
+noted_empty l row e before is none = ap (λ (k : Row). noted (is_peer_set k.reply) e before) (is ∙ ap (oldest_row reply.Pending) none)
 
 pub tracker_answers : (configs : List Config) (log : List Entry) (at seed n e index : ℕ) (t u : Tracker) (r : Row) → TrackerStands configs log n t → asked_by log e ≡ Some (act.Ask (ask.PeerSet index) n) → Answers n e t u r
     → (r ≡ answer_row log e) × TrackerStands configs (log ++ entry_of (record { at = at; seed = seed; act = act.Answer e }) r ∷ []) n u
@@ -213,17 +208,17 @@ tracker_answers configs log at seed n e index t u r s asked h =
         let first : r ≡ oldest_row reply.Pending (line log q) = taking.0 ∙ first_row (held t.told q) (line log q) (s.told q (eq-eqb n n refl)) in
         let entry = entry_of (record { at = at; seed = seed; act = act.Answer e }) r in (
           first ∙ sym (row_is ∙ at_is false is),
-          read_stands configs log at seed n (act.Answer e) t u r s refl refl refl refl q (line log q) (noted (is_answer r.reply) e t.answered) refl
+          read_stands configs log at seed n (act.Answer e) t u r s refl refl refl refl q (line log q) (noted (is_peer_set r.reply) e t.answered) refl
               (record { own = eq-eqb n n refl; no_dialer = refl; no_listener = refl; no_handshake = λ k. refl }) first (λ d. no_answer_pending d e) taking.1.0 taking.1.1
               (λ none. noted_empty (line log q) r e t.answered first none)
-              (λ d wants. note_taken t.answered (was_answered log d) (is_answer r.reply) e d (s.answered d wants) ∙ sym (was_answered-append log entry d))
+              (λ d wants. note_taken t.answered (was_answered log d) (is_peer_set r.reply) e d (s.answered d wants) ∙ sym (was_answered-append log entry d))
               (λ d past.
               let long = length-append log (entry ∷ []) in
               let before : length log ≤ d = omega (arith, long) in
               let other : (e == d) ≡ false = apart e d (length log) (asked_before log e (act.Ask (ask.PeerSet index) n) asked) before in
               let was = s.fresh d before in (
-                note_other t.answered (is_answer r.reply) e d other ∙ was.0,
-                was_answered-append log entry d ∙ (ap (λ b. b || ((e == d) && is_answer r.reply)) was.1 ∙ ap (λ b. b && is_answer r.reply) other),
+                note_other t.answered (is_peer_set r.reply) e d other ∙ was.0,
+                was_answered-append log entry d ∙ (ap (λ b. b || ((e == d) && is_peer_set r.reply)) was.1 ∙ ap (λ b. b && is_peer_set r.reply) other),
               )),
         )
 

@@ -42,6 +42,7 @@ use Rattle.p2p_net_queues.specs.Board.{held}
 use Rattle.p2p_net_queues.specs.Tables as table
 use Rattle.p2p_net_tracker.specs.declared.tracker.Tracker.{Tracker}
 use Rattle.p2p_net_tracker.specs.Begins.{IsNew}
+use Rattle.p2p_net_tracker.specs.GivenBack.{IsGivenBack}
 use Rattle.p2p_net_tracker.specs.Heeding.{is_noted}
 use Rattle.p2p_net_queues.specs.Matching.{Match}
 use Rattle.p2p_net_tracker.specs.Stands.{IsTicket, IsMessage, IsAnswer, HeardStands, HandshakeStands, AreDistinct, IsHeldByPeer, ReleasesHeld, ConnectsReserved, TrackerStands}
@@ -92,6 +93,8 @@ tracker_new configs n c t is h =
       names = h.names ∙ sym (ap (λ l. map name_of l) (no_line (queue.Tracker n)));
       messages = subst (λ l. Match (λ x m. IsMessage t.tickets [] x.item m) l t.mailbox.desk.messages.items) (sym (no_line (queue.Tracker n)))
           (subst (Match (λ (x : Envelope) m. IsMessage t.tickets [] x.item m) []) (sym (ap (λ (m : Mailbox Key). m.desk.messages.items) h.mailbox)) tt);
+      given_back = subst (λ l. Match (λ x m. IsGivenBack [] x.entry m) l t.mailbox.desk.messages.items) (sym (no_line (queue.Tracker n)))
+          (subst (Match (λ (x : Envelope) m. IsGivenBack [] x.entry m) []) (sym (ap (λ (m : Mailbox Key). m.desk.messages.items) h.mailbox)) tt);
       questions = ap (λ (m : Mailbox Key). length m.desk.questions) h.mailbox ∙ sym (ap (λ (k : Tickets). length k.questions) h.tickets);
       updates = ap (λ (m : Mailbox Key). length m.desk.updates) h.mailbox ∙ sym (ap (λ (k : Tickets). length k.updates) h.tickets);
       sets = ap (λ (m : Mailbox Key). length m.desk.sets) h.mailbox ∙ sym (ap (λ (k : Tickets). length k.blocked) h.tickets);

@@ -23,20 +23,25 @@ use Rattle.p2p_log.specs.Lines.{name_of, ended_item, goes, line, placed, stands_
 use Rattle.p2p_log.proofs.Queues.{same_queue-refl}
 use Rattle.p2p_log.proofs.QueueNames.{queue_from_same}
 use Rattle.p2p_log_rules.specs.Connections.{ends_connection}
-use Rattle.p2p_log_rules.specs.Handshakes.{handshakes_by, handshakes_of}
+use Rattle.p2p_log_rules.specs.Handshakes.{handshakes_of}
 use Rattle.p2p_log_rules.specs.Tracking.{key_cmp, asked_by, steps_tracker, update_subscriptions, blocked_subscriptions}
 use Rattle.p2p_net_queues.specs.Board.{held}
 use Rattle.p2p_net_queues.proofs.Going.{put_in, line-kept, line-taken}
 use Rattle.p2p_net_queues.proofs.Holding.{TakesFirst}
+use Rattle.p2p_log.specs.declared.asked.Asked.{Asked}
+use Rattle.p2p_log.specs.declared.asked.Asked.TheVariants as ask
+use Rattle.p2p_net_tracker.specs.Asking.{message_of}
+use Rattle.p2p_net_tracker.specs.GivenBack.{IsGivenBack}
 use Rattle.p2p_net_tracker.specs.declared.naming.Tickets.{Tickets}
 use Rattle.p2p_net_tracker.specs.declared.tracker.Tracker.{Tracker}
-use Rattle.p2p_log_rules.specs.TrackerRows.{answers, was_answered}
+use Rattle.p2p_log_rules.specs.TrackerRows.{takes_answer, was_answered}
 use Rattle.p2p_net_queues.specs.Tables as table
 use Rattle.p2p_net_tracker.specs.declared.question.Question.{Question}
 use Rattle.p2p_net_tracker.specs.declared.question.Question.TheVariants as question
 use Rattle.p2p_net_queues.specs.Matching.{Match}
 use Rattle.p2p_net_tracker.specs.Stands.{asks_of, asks_at, AreFresh, is_told, IsTicket, kind_of, HasTicket, Says, IsMessage, IsAnswer, HeardStands, TrackerStands, LeavesTracker}
 use Rattle.p2p_net_tracker.proofs.Ended.{noted_stay}
+use Rattle.p2p_net_tracker.proofs.GivenBack.{all_given-longer}
 use Rattle.p2p_net_tracker.proofs.Facts.{asks_at-kept, fresh-longer, was_answered-kept, calls-kept, update_subscriptions-kept, blocked_subscriptions-kept, asked_by-longer, handshaking-kept, source_at-longer}
 use Rattle.p2p_net_queues.proofs.Matching.{Match-weaker, Match-last, slice_get-last}
 
@@ -69,6 +74,19 @@ IsMessage-longer old new given log more (item.AskListen name key) m h = (h.0, so
 IsMessage-longer old new given log more (item.Release key) m h = h
 IsMessage-longer old new given log more _ m h = absurd h
 
+-- who asks by an oracle gives nothing back
+asked_gives : (t : Tickets) (e : ℕ) (a : Act) (m : Message Key) → Says t e a m → (log : List Entry) (k : ℕ) → IsGivenBack log k m
+asked_gives t e (act.Ask what n) m says log k = subst (IsGivenBack log k) (sym says.1) (by what says.0)
+  where
+    by : (what : Asked) (ticket : ℕ) → IsGivenBack log k (message_of what ticket)
+    by (ask.Track index peers) ticket = tt
+    by (ask.Overwrite peers) ticket = tt
+    by (ask.Block key) ticket = tt
+    by (ask.PeerSet index) ticket = tt
+    by ask.Subscribe ticket = tt
+    by ask.Blocked ticket = tt
+asked_gives t e _ m says log k = absurd says
+
 -- what waits stays what it was
 pub messages-longer : (old new : Tickets) → AreMore old new → (log more : List Entry) (xs : List Envelope) (ms : List (Message Key)) → Match (λ x m. IsMessage old log x.item m) xs ms → Match (λ x m. IsMessage new (log ++ more) x.item m) xs ms
 messages-longer old new given log more =
@@ -88,6 +106,8 @@ tracker_frame configs log e n t s q = record {
   names = s.names ∙ ap (map name_of) (sym q.mailbox);
   messages = subst (λ l. Match (λ x m. IsMessage t.tickets (log ++ e ∷ []) x.item m) l t.mailbox.desk.messages.items) (sym q.mailbox)
       (messages-longer t.tickets t.tickets (same_tickets t.tickets) log (e ∷ []) (line log (queue.Tracker n)) t.mailbox.desk.messages.items s.messages);
+  given_back = subst (λ l. Match (λ x m. IsGivenBack (log ++ e ∷ []) x.entry m) l t.mailbox.desk.messages.items) (sym q.mailbox)
+      (all_given-longer log (e ∷ []) (line log (queue.Tracker n)) t.mailbox.desk.messages.items s.given_back);
   questions = s.questions;
   updates = s.updates;
   sets = s.sets;
@@ -128,9 +148,9 @@ kept_open false false xs m h = refl
 -- the entry asks the tracker, and does no more
 pub record Asks (log : List Entry) (e : Entry) (n : ℕ) : Type 0 where
   pub no_step : steps_tracker n e.event.act ≡ false
-  pub no_answer : (d : ℕ) → answers d e.event.act e.reply ≡ false
-  pub no_end : (conn : ℕ) → ends_connection n conn e ≡ false
-  pub no_admission : handshakes_by n log e (handshakes_of log n) ≡ handshakes_of log n
+  pub no_answer : (d : ℕ) → takes_answer d e.event.act e.reply ≡ false
+  pub no_end : (conn : ℕ) → ends_connection n conn log e ≡ false
+  pub no_admission : handshakes_of (log ++ e ∷ []) n ≡ handshakes_of log n
   pub takes : e.takes ≡ []
   pub puts : e.puts ≡ (queue.Tracker n, item.Call (length log)) ∷ []
   pub ends : e.ends ≡ []
@@ -173,6 +193,11 @@ tracker_asked configs log e n t desk tickets questions_now m s q more put says q
           (Match-last (λ (y : Envelope) k. IsMessage tickets (log ++ e ∷ []) y.item k) (line log (queue.Tracker n)) t.mailbox.desk.messages.items x m
           (messages-longer t.tickets tickets more log (e ∷ []) (line log (queue.Tracker n)) t.mailbox.desk.messages.items s.messages)
           (e.event.act, asked-now log e, says)));
+      given_back = subst (λ l. Match (λ y k. IsGivenBack (log ++ e ∷ []) y.entry k) l desk.messages.items) (sym longer)
+          (subst (λ l. Match (λ y k. IsGivenBack (log ++ e ∷ []) y.entry k) (line log (queue.Tracker n) ++ x ∷ []) l) (sym items)
+          (Match-last (λ (y : Envelope) k. IsGivenBack (log ++ e ∷ []) y.entry k) (line log (queue.Tracker n)) t.mailbox.desk.messages.items x m
+          (all_given-longer log (e ∷ []) (line log (queue.Tracker n)) t.mailbox.desk.messages.items s.given_back)
+          (asked_gives tickets (length log) e.event.act m says (log ++ e ∷ []) (length log))));
       questions = questions;
       updates = updates;
       sets = sets;
@@ -202,7 +227,7 @@ pub record TellsAsker (n : ℕ) (q : Queue) : Type 0 where
 
 -- the entry takes the first item of a queue in which it told one who asked by an oracle, and does no more; these were answered then
 pub tracker_read : (configs : List Config) (log : List Entry) (e : Entry) (n : ℕ) (t u : Tracker) (q : Queue) (x : Envelope) (rest : List Envelope) (answered : List (ℕ × Bool)) → TrackerStands configs log n t
-    → steps_tracker n e.event.act ≡ false → asks_of n e.event.act ≡ None → ((conn : ℕ) → ends_connection n conn e ≡ false) → handshakes_by n log e (handshakes_of log n) ≡ handshakes_of log n → TakesFirst log e q x rest → e.puts ≡ [] → TellsAsker n q
+    → steps_tracker n e.event.act ≡ false → asks_of n e.event.act ≡ None → ((conn : ℕ) → ends_connection n conn log e ≡ false) → handshakes_of (log ++ e ∷ []) n ≡ handshakes_of log n → TakesFirst log e q x rest → e.puts ≡ [] → TellsAsker n q
     → u ≡ record t { told = u.told; answered = answered }
     → ((d : ℕ) → asks_at log n d ≡ Some question.PeerSet → is_some (table.at answered d) ≡ was_answered (log ++ e ∷ []) d)
     → AreFresh (log ++ e ∷ []) answered
@@ -220,6 +245,8 @@ tracker_read configs log e n t u q x rest answered s no_step no_question no_end 
       names = s.names ∙ ap (map name_of) (sym mailbox);
       messages = subst (λ l. Match (λ y m. IsMessage t.tickets (log ++ e ∷ []) y.item m) l t.mailbox.desk.messages.items) (sym mailbox)
           (messages-longer t.tickets t.tickets (same_tickets t.tickets) log (e ∷ []) (line log (queue.Tracker n)) t.mailbox.desk.messages.items s.messages);
+      given_back = subst (λ l. Match (λ y m. IsGivenBack (log ++ e ∷ []) y.entry m) l t.mailbox.desk.messages.items) (sym mailbox)
+          (all_given-longer log (e ∷ []) (line log (queue.Tracker n)) t.mailbox.desk.messages.items s.given_back);
       questions = s.questions;
       updates = s.updates;
       sets = s.sets;

@@ -16,9 +16,10 @@ use Rattle.p2p_log.specs.Lines.{ended_item, goes, line, placed, stands_in}
 use Rattle.p2p_log.proofs.Queues.{same_queue-refl}
 use Rattle.p2p_log_rules.specs.Effect.{begin_row, entry_of}
 use Rattle.p2p_log_rules.specs.Connections.{ends_connection}
-use Rattle.p2p_log_rules.specs.Handshakes.{handshakes_by, handshakes_of}
+use Rattle.p2p_log_rules.specs.Handshakes.{handshakes_of}
+use Rattle.p2p_log_rules.proofs.Handshakes.{handshakes_of-apart}
 use Rattle.p2p_log_rules.specs.Tracking.{steps_tracker}
-use Rattle.p2p_log_rules.specs.TrackerRows.{answers}
+use Rattle.p2p_log_rules.specs.TrackerRows.{takes_answer}
 use Rattle.p2p_net_queues.proofs.Going.{put_in, line-kept}
 use Rattle.p2p_net_queues.specs.Matching.{Match}
 use Rattle.p2p_net_tracker.specs.declared.tracker.Tracker.{Tracker}
@@ -33,9 +34,9 @@ use Rattle.p2p_net_tracker.proofs.Moved.{tracker_moved, desk_grows}
 pub record Connects (log : List Entry) (e : Entry) (n conn : ℕ) (peer : Key) : Type 0 where
   pub no_step : steps_tracker n e.event.act ≡ false
   pub no_question : asks_of n e.event.act ≡ None
-  pub no_answer : (d : ℕ) → answers d e.event.act e.reply ≡ false
-  pub no_end : (conn : ℕ) → ends_connection n conn e ≡ false
-  pub no_admission : handshakes_by n log e (handshakes_of log n) ≡ handshakes_of log n
+  pub no_answer : (d : ℕ) → takes_answer d e.event.act e.reply ≡ false
+  pub no_end : (conn : ℕ) → ends_connection n conn log e ≡ false
+  pub no_admission : handshakes_of (log ++ e ∷ []) n ≡ handshakes_of log n
   pub takes : e.takes ≡ []
   pub puts : e.puts ≡ (queue.Tracker n, item.Connect conn peer) ∷ (queue.Router n, item.Ready conn peer) ∷ []
   pub ends : e.ends ≡ []
@@ -69,6 +70,7 @@ tracker_connected configs log e n conn peer t s q =
       updates = grows.updates;
       sets = grows.sets;
       each = (refl, tt);
+      given = (tt, tt);
       waits = line-kept log e (queue.Tracker n) none ∙ ap (λ l. line log (queue.Tracker n) ++ l) waits;
       dialer = subst (λ l. Match (λ y a. IsAnswer y.item a) l t.mailbox.dialer) (sym (same (queue.Dialer n) (eq-eqb n n refl))) s.dialer;
       heard = subst (HeardStands t.mailbox.heard) (sym (same (queue.Update n) (eq-eqb n n refl))) s.heard;
@@ -105,4 +107,4 @@ pub tracker_begun : (configs : List Config) (log : List Entry) (at seed n conn :
 tracker_begun configs log at seed n conn peer t s =
     let e = entry_of (record { at = at; seed = seed; act = act.SendStep conn n }) (begin_row n conn peer) in
     tracker_connected configs log e n conn peer t s
-    (record { no_step = refl; no_question = refl; no_answer = λ d. refl; no_end = no_end-reply n e refl; no_admission = refl; takes = refl; puts = refl; ends = refl })
+    (record { no_step = refl; no_question = refl; no_answer = λ d. refl; no_end = no_end-reply n log e refl; no_admission = handshakes_of-apart log e n refl; takes = refl; puts = refl; ends = refl })

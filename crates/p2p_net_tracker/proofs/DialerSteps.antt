@@ -1,6 +1,7 @@
 -- A node's dialer takes an answer, or none, and asks something, or nothing: the tracker stands for the log with that entry.
 use Rattle.std.proofs.Common.{◌≡◌, ℕ, Bool, true, false, cond, List, [], ◌∷◌, ◌++◌, map, drop, length, refl, ap, sym, subst, ◌∙◌, append-nil, eq-eqb, None}
 use Rattle.std.specs.Prelude.{filter, ◌&&◌, if◌then◌else◌}
+use Rattle.p2p_log_rules.proofs.Bools.{and_false}
 use Rattle.p2p_base.specs.declared.key.Key.{Key}
 use Rattle.p2p_tracker_mailbox.specs.declared.message.Message.{Message}
 use Rattle.p2p_log.specs.declared.config.Config.{Config}
@@ -13,11 +14,12 @@ use Rattle.p2p_log.specs.Lines.{name_of, goes, line, live, stays, stands_in}
 use Rattle.p2p_log.proofs.QueueNames.{queue_from_same}
 use Rattle.p2p_log.proofs.Queues.{same_queue-refl}
 use Rattle.p2p_log_rules.specs.Connections.{ends_connection}
-use Rattle.p2p_log_rules.specs.Handshakes.{handshakes_by, handshakes_of}
+use Rattle.p2p_log_rules.specs.Handshakes.{handshakes_of}
 use Rattle.p2p_log_rules.specs.Tracking.{steps_tracker}
-use Rattle.p2p_log_rules.specs.TrackerRows.{answers}
+use Rattle.p2p_log_rules.specs.TrackerRows.{takes_answer}
 use Rattle.p2p_net_queues.specs.Board.{held}
 use Rattle.p2p_net_queues.proofs.Going.{put_in, line-append, first_left}
+use Rattle.p2p_net_tracker.specs.GivenBack.{IsGivenBack}
 use Rattle.p2p_net_tracker.specs.declared.tracker.Tracker.{Tracker}
 use Rattle.p2p_net_queues.specs.Matching.{Match}
 use Rattle.p2p_net_tracker.specs.Stands.{asks_of, is_told, IsMessage, IsAnswer, HeardStands, TrackerStands}
@@ -36,9 +38,9 @@ is_taken_of took n p = took && same_queue (queue.Dialer n) p
 pub record DialerMoves (log : List Entry) (e : Entry) (n : ℕ) (t u : Tracker) (took : Bool) (xs : List Envelope) (ms : List (Message Key)) : Type 0 where
   pub no_step : steps_tracker n e.event.act ≡ false
   pub no_question : asks_of n e.event.act ≡ None
-  pub no_answer : (d : ℕ) → answers d e.event.act e.reply ≡ false
-  pub no_end : (conn : ℕ) → ends_connection n conn e ≡ false
-  pub no_admission : handshakes_by n log e (handshakes_of log n) ≡ handshakes_of log n
+  pub no_answer : (d : ℕ) → takes_answer d e.event.act e.reply ≡ false
+  pub no_end : (conn : ℕ) → ends_connection n conn log e ≡ false
+  pub no_admission : handshakes_of (log ++ e ∷ []) n ≡ handshakes_of log n
   pub rest : u ≡ record t { mailbox = record t.mailbox { desk = u.mailbox.desk; dialer = u.mailbox.dialer }; names = t.names ++ map name_of xs; told = u.told }
   pub items : u.mailbox.desk.messages.items ≡ t.mailbox.desk.messages.items ++ ms
   pub closed : u.mailbox.desk.messages.closed ≡ t.mailbox.desk.messages.closed
@@ -47,6 +49,7 @@ pub record DialerMoves (log : List Entry) (e : Entry) (n : ℕ) (t u : Tracker) 
   pub updates : length u.mailbox.desk.updates ≡ length t.mailbox.desk.updates
   pub sets : length u.mailbox.desk.sets ≡ length t.mailbox.desk.sets
   pub each : Match (λ x m. IsMessage t.tickets log x.item m) xs ms
+  pub given : Match (λ x m. IsGivenBack (log ++ e ∷ []) x.entry m) xs ms
   pub waits : line (log ++ e ∷ []) (queue.Tracker n) ≡ line log (queue.Tracker n) ++ xs
   pub lines : (p : Queue) → is_told n p ≡ true → line (log ++ e ∷ []) p ≡ cond (is_taken_of took n p) (drop 1 (line log p)) (line log p)
   pub answered : u.mailbox.dialer ≡ cond took (drop 1 t.mailbox.dialer) t.mailbox.dialer
@@ -64,10 +67,6 @@ answer_left log n x rest first p = first_left log (queue.Dialer n) x rest first 
     by : (b : Bool) → same_queue (queue.Dialer n) p ≡ b → cond b rest (line log p) ≡ cond b (drop 1 (line log p)) (line log p)
     by true is = sym (ap (drop 1) (ap (line log) (queue_from_same (queue.Dialer n) p is) ∙ first))
     by false is = refl
-
-and_false : (b : Bool) → (b && false) ≡ false
-and_false true = refl
-and_false false = refl
 
 and_true : (b c : Bool) → c ≡ true → (b && c) ≡ b
 and_true true c h = h
@@ -106,6 +105,7 @@ tracker_dialed configs log e n t u took xs ms s q =
       updates = q.updates;
       sets = q.sets;
       each = messages-longer t.tickets t.tickets (same_tickets t.tickets) log (e ∷ []) xs ms q.each;
+      given = q.given;
       waits = q.waits;
       dialer = subst (λ l. Match (λ x a. IsAnswer x.item a) l u.mailbox.dialer) (sym (q.lines (queue.Dialer n) (eq-eqb n n refl)))
           (subst (Match (λ (x : Envelope) a. IsAnswer x.item a) (cond (is_taken_of took n (queue.Dialer n)) (drop 1 (line log (queue.Dialer n))) (line log (queue.Dialer n)))) (sym q.answered)

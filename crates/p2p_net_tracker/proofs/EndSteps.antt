@@ -18,19 +18,22 @@ use Rattle.p2p_log.specs.QueueCode.{same_queue}
 use Rattle.p2p_log.specs.Lines.{line, placed, stands_in}
 use Rattle.p2p_log.proofs.Queues.{same_queue-refl}
 use Rattle.p2p_log.proofs.QueueNames.{queue_from_same}
-use Rattle.p2p_log_rules.specs.Connections.{steps_sender, steps_receiver, is_end, ends_connection}
-use Rattle.p2p_log_rules.specs.Handshakes.{handshakes_by, handshakes_of}
+use Rattle.p2p_log_rules.proofs.Connections.{ends_act}
+use Rattle.p2p_log_rules.specs.Connections.{is_end, ends_connection}
+use Rattle.p2p_log_rules.specs.Handshakes.{handshakes_of}
 use Rattle.p2p_log_rules.specs.Tracking.{steps_tracker}
-use Rattle.p2p_log_rules.specs.TrackerRows.{answers}
+use Rattle.p2p_log_rules.specs.TrackerRows.{takes_answer}
 use Rattle.p2p_net_queues.specs.Board.{held}
 use Rattle.p2p_net_queues.specs.Matching.{Match}
 use Rattle.p2p_net_queues.proofs.Going.{put_in}
 use Rattle.p2p_net_tracker.specs.Ending.{released_by, told_release}
+use Rattle.p2p_net_tracker.specs.GivenBack.{side_freed_by, IsOfSide}
 use Rattle.p2p_net_tracker.specs.Stands.{asks_of, is_told, IsAnswer, HeardStands, TrackerStands}
 use Rattle.p2p_net_tracker.specs.declared.tracker.Tracker.{Tracker}
 use Rattle.p2p_net_tracker.proofs.Changes.{told_apart}
 use Rattle.p2p_net_tracker.proofs.ConnectSteps.{router_apart}
 use Rattle.p2p_net_tracker.proofs.Ended.{noted_more}
+use Rattle.p2p_net_tracker.proofs.GivenBack.{given_now}
 use Rattle.p2p_net_tracker.proofs.Facts.{handshaking-kept}
 use Rattle.p2p_net_tracker.proofs.Moved.{tracker_moved, desk_grows}
 
@@ -38,12 +41,13 @@ use Rattle.p2p_net_tracker.proofs.Moved.{tracker_moved, desk_grows}
 pub record EndMoves (log : List Entry) (e : Entry) (n conn place : ℕ) (reserved : Metadata Key) (t u : Tracker) : Type 0 where
   pub no_step : steps_tracker n e.event.act ≡ false
   pub no_question : asks_of n e.event.act ≡ None
-  pub no_answer : (d : ℕ) → answers d e.event.act e.reply ≡ false
-  pub no_admission : handshakes_by n log e (handshakes_of log n) ≡ handshakes_of log n
+  pub no_answer : (d : ℕ) → takes_answer d e.event.act e.reply ≡ false
+  pub no_admission : handshakes_of (log ++ e ∷ []) n ≡ handshakes_of log n
   -- it ends this connection of the node, and no other
-  pub ends : (c : ℕ) → ends_connection n c e ≡ (c == conn)
+  pub ends : (c : ℕ) → ends_connection n c log e ≡ (c == conn)
   pub rest : u ≡ record (released_by (length log) place conn reserved t) { told = u.told }
   pub mailbox : line (log ++ e ∷ []) (queue.Tracker n) ≡ line log (queue.Tracker n) ++ told_release n (peer_of reserved) (length log) place ∷ []
+  pub side : IsOfSide (side_freed_by log e) reserved
   -- what the connection was told ends with it, and nothing else that the tracker told
   pub emptied : line (log ++ e ∷ []) (queue.Control n conn) ≡ []
   pub told : (p : Queue) → is_told n p ≡ true → same_queue (queue.Control n conn) p ≡ false → line (log ++ e ∷ []) p ≡ line log p
@@ -69,6 +73,7 @@ tracker_ended configs log e n conn place reserved t u s q =
       updates = grows.updates;
       sets = grows.sets;
       each = ((reserved, refl, refl), tt);
+      given = (given_now log e reserved q.side, tt);
       waits = q.mailbox;
       dialer = subst (λ l. Match (λ y a. IsAnswer y.item a) l t.mailbox.dialer) (sym (q.told (queue.Dialer n) (eq-eqb n n refl) refl)) s.dialer;
       heard = subst (HeardStands t.mailbox.heard) (sym (q.told (queue.Update n) (eq-eqb n n refl) refl)) s.heard;
@@ -84,15 +89,15 @@ tracker_ended configs log e n conn place reserved t u s q =
 -- ---- its row
 
 -- a step of a half ends its own connection, where it tells of an end
-module _ (n conn : ℕ) (e : Entry) (end : is_end e.reply ≡ true) where
-  pub sender_ends : e.event.act ≡ act.SendStep conn n → (c : ℕ) → ends_connection n c e ≡ (c == conn)
-  sender_ends acts c = ap (λ a. (steps_sender n c a || steps_receiver n c a) && is_end e.reply) acts ∙ (ap (λ b. (((n == n) && (conn == c)) || false) && b) end ∙ same n conn c)
+module _ (log : List Entry) (e : Entry) (n conn : ℕ) (end : is_end e.reply ≡ true) where
+  pub sender_ends : e.event.act ≡ act.SendStep conn n → (c : ℕ) → ends_connection n c log e ≡ (c == conn)
+  sender_ends acts c = ends_act log e n c (act.SendStep conn n) acts ∙ (ap (λ b. (((n == n) && (conn == c)) || false) && b) end ∙ same n conn c)
     where
       same : (n conn c : ℕ) → ((((n == n) && (conn == c)) || false) && true) ≡ (c == conn)
       same n conn c = grind (arith, nat_tests)
 
-  pub receiver_ends : e.event.act ≡ act.RecvStep conn n → (c : ℕ) → ends_connection n c e ≡ (c == conn)
-  receiver_ends acts c = ap (λ a. (steps_sender n c a || steps_receiver n c a) && is_end e.reply) acts ∙ (ap (λ b. ((n == n) && (conn == c)) && b) end ∙ same n conn c)
+  pub receiver_ends : e.event.act ≡ act.RecvStep conn n → (c : ℕ) → ends_connection n c log e ≡ (c == conn)
+  receiver_ends acts c = ends_act log e n c (act.RecvStep conn n) acts ∙ (ap (λ b. ((n == n) && (conn == c)) && b) end ∙ same n conn c)
     where
       same : (n conn c : ℕ) → (((n == n) && (conn == c)) && true) ≡ (c == conn)
       same n conn c = grind (arith, nat_tests)

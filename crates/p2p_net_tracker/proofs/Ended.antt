@@ -6,9 +6,9 @@ use Rattle.std.specs.Ordering.{nat_cmp}
 use Rattle.p2p_log.specs.declared.entry.Entry.{Entry}
 use Rattle.p2p_log.specs.declared.event.Act.{Act}
 use Rattle.p2p_log.specs.declared.event.Act.TheVariants as act
-use Rattle.p2p_log_rules.specs.Connections.{steps_sender, steps_receiver, is_end, ends_connection, is_ended}
+use Rattle.p2p_log_rules.specs.Connections.{is_end, ends_connection, is_ended}
 pub use Rattle.p2p_log_rules.proofs.Connections.{is_ended-append, is_ended-kept, is_ended-none}
-use Rattle.p2p_log_rules.proofs.Connections.{ends_none-reply}
+use Rattle.p2p_log_rules.proofs.Connections.{steps_sender, steps_receiver, ends_none-act, ends_none-reply}
 use Rattle.p2p_net_queues.specs.Tables.{at}
 use Rattle.p2p_net_queues.proofs.Tables.{at-inserted}
 use Rattle.p2p_net_tracker.specs.Heeding.{is_noted}
@@ -22,35 +22,31 @@ steps_half n (act.RecvStep conn m) = m == n
 steps_half n _ = false
 
 -- an act that is none ends no connection of the node
-pub no_end-act : (n : ℕ) (e : Entry) → steps_half n e.event.act ≡ false → (conn : ℕ) → ends_connection n conn e ≡ false
-no_end-act n e none conn = by e.event.act none
+pub no_end-act : (n : ℕ) (log : List Entry) (e : Entry) → steps_half n e.event.act ≡ false → (conn : ℕ) → ends_connection n conn log e ≡ false
+no_end-act n log e none conn = ends_none-act log e n conn e.event.act refl (by e.event.act none)
   where
-    by : (a : Act) → steps_half n a ≡ false → ((steps_sender n conn a || steps_receiver n conn a) && is_end e.reply) ≡ false
-    by (act.SendStep k m) none = ap (λ b. ((b && (k == conn)) || false) && is_end e.reply) none
-    by (act.RecvStep k m) none = ap (λ b. (b && (k == conn)) && is_end e.reply) none
+    by : (a : Act) → steps_half n a ≡ false → (steps_sender n conn a || steps_receiver n conn a) ≡ false
+    by (act.SendStep k m) none = ap (λ b. (b && (k == conn)) || false) none
+    by (act.RecvStep k m) none = ap (λ b. b && (k == conn)) none
     by _ none = refl
 
--- nor does one that is a step of neither half of a connection end that
-pub no_end-apart : (n conn : ℕ) (e : Entry) → steps_sender n conn e.event.act ≡ false → steps_receiver n conn e.event.act ≡ false → ends_connection n conn e ≡ false
-no_end-apart n conn e no_sender no_receiver = ap (λ b. (b || steps_receiver n conn e.event.act) && is_end e.reply) no_sender ∙ ap (λ b. b && is_end e.reply) no_receiver
-
 -- nor does an entry whose reply tells of no end
-pub no_end-reply : (n : ℕ) (e : Entry) → is_end e.reply ≡ false → (conn : ℕ) → ends_connection n conn e ≡ false
-no_end-reply n e none conn = ends_none-reply e n conn none
+pub no_end-reply : (n : ℕ) (log : List Entry) (e : Entry) → is_end e.reply ≡ false → (conn : ℕ) → ends_connection n conn log e ≡ false
+no_end-reply n log e none conn = ends_none-reply log e n conn none
 
 -- what is kept of those that have ended stays
-pub noted_stay : (log : List Entry) (e : Entry) (n : ℕ) (ended : List (ℕ × Unit {0})) → ((conn : ℕ) → is_noted ended conn ≡ is_ended log n conn) → ((conn : ℕ) → ends_connection n conn e ≡ false)
+pub noted_stay : (log : List Entry) (e : Entry) (n : ℕ) (ended : List (ℕ × Unit {0})) → ((conn : ℕ) → is_noted ended conn ≡ is_ended log n conn) → ((conn : ℕ) → ends_connection n conn log e ≡ false)
     → (conn : ℕ) → is_noted ended conn ≡ is_ended (log ++ e ∷ []) n conn
 noted_stay log e n ended stands none conn = stands conn ∙ sym (is_ended-kept log e n conn (none conn))
 
 -- ---- entries that end one
 
 -- the others are as they were
-pub others_kept : (log : List Entry) (e : Entry) (n conn : ℕ) → ((c : ℕ) → ends_connection n c e ≡ (c == conn)) → (c : ℕ) → (c == conn) ≡ false → is_ended (log ++ e ∷ []) n c ≡ is_ended log n c
+pub others_kept : (log : List Entry) (e : Entry) (n conn : ℕ) → ((c : ℕ) → ends_connection n c log e ≡ (c == conn)) → (c : ℕ) → (c == conn) ≡ false → is_ended (log ++ e ∷ []) n c ≡ is_ended log n c
 others_kept log e n conn ends c apart = is_ended-kept log e n c (ends c ∙ apart)
 
 -- and one more is kept
-pub noted_more : (log : List Entry) (e : Entry) (n conn : ℕ) (ended : List (ℕ × Unit {0})) → ((c : ℕ) → is_noted ended c ≡ is_ended log n c) → ((c : ℕ) → ends_connection n c e ≡ (c == conn))
+pub noted_more : (log : List Entry) (e : Entry) (n conn : ℕ) (ended : List (ℕ × Unit {0})) → ((c : ℕ) → is_noted ended c ≡ is_ended log n c) → ((c : ℕ) → ends_connection n c log e ≡ (c == conn))
     → (c : ℕ) → is_noted (insert_entry nat_cmp ended conn tt) c ≡ is_ended (log ++ e ∷ []) n c
 noted_more log e n conn ended stands ends c =
     ap (λ (o : Option (Unit {0})). is_some o) (at-inserted conn c tt ended)

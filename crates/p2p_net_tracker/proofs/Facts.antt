@@ -11,16 +11,16 @@ use Rattle.p2p_log.specs.declared.event.Act.{Act}
 use Rattle.p2p_log.specs.declared.queue.Queue.TheVariants as queue
 use Rattle.p2p_log.specs.Lines.{line}
 use Rattle.p2p_log_rules.specs.Facts.{taken}
-use Rattle.p2p_log_rules.specs.Handshakes.{handshakes_by, handshakes_of, is_handshaking, source_of, source_at}
+use Rattle.p2p_log_rules.specs.Handshakes.{handshakes_of, is_handshaking, source_of, source_at}
 use Rattle.p2p_log_rules.specs.Tracking.{asked_by, steps_tracker, rules_at, grants_peer, calls_of, update_subscriptions, blocked_subscriptions}
 use Rattle.p2p_log_rules.proofs.Calls.{step_calls, call_where, calls_taken, subscribes, subscribes_blocked, calls_of-append, update_subscriptions-append, blocked_subscriptions-append}
-use Rattle.p2p_log_rules.specs.TrackerRows.{answers, was_answered}
-use Rattle.p2p_log_rules.proofs.Handshakes.{handshakes_of-kept}
+use Rattle.p2p_log_rules.specs.TrackerRows.{takes_answer, was_answered}
 use Rattle.p2p_log_rules.proofs.TakenAt.{taken_at-longer, taken_at-late}
 use Rattle.p2p_log.proofs.Places.{slice_get-append}
 use Rattle.std.proofs.lemmas.Option.{slice_get_past}
 use Rattle.std.proofs.lemmas.Bool.Decides.{nat_tests}
 use Rattle.std.proofs.lemmas.List.Folds.{list_any-append}
+use Rattle.p2p_log_rules.proofs.Bools.{or_false}
 use Rattle.p2p_tracker_mailbox.specs.Lines.{Lines, line_of}
 use Rattle.p2p_tracker_mailbox.specs.declared.answer.HandshakeItem.{HandshakeItem}
 use Rattle.p2p_net_tracker.specs.Stands.{asks_of, asks_at, AreFresh, HandshakeStands}
@@ -90,23 +90,19 @@ asks_at-kept log e n d none = asks_at-longer log e n d ∙ by (d == length log) 
         at_end : (a b : ℕ) → (a == b) ≡ true → b ≤ a
         at_end a b is = grind (arith, nat_tests)
 
-pub was_answered-append : (log : List Entry) (e : Entry) (d : ℕ) → was_answered (log ++ e ∷ []) d ≡ (was_answered log d || answers d e.event.act e.reply)
+pub was_answered-append : (log : List Entry) (e : Entry) (d : ℕ) → was_answered (log ++ e ∷ []) d ≡ (was_answered log d || takes_answer d e.event.act e.reply)
 unfolding was_answered
-was_answered-append log e d = list_any-append (λ (k : Entry). answers d k.event.act k.reply) log (e ∷ []) ∙ ap (λ b. list_any (λ (k : Entry). answers d k.event.act k.reply) log || b) (or-false (answers d e.event.act e.reply))
-  where
-    or-false : (b : Bool) → (b || false) ≡ b
-    or-false true = refl
-    or-false false = refl
+was_answered-append log e d = list_any-append (λ (k : Entry). takes_answer d k.event.act k.reply) log (e ∷ []) ∙ ap (λ b. list_any (λ (k : Entry). takes_answer d k.event.act k.reply) log || b) (or_false (takes_answer d e.event.act e.reply))
 
-pub fresh-longer : (log : List Entry) (e : Entry) (answered : List (ℕ × Bool)) → AreFresh log answered → ((d : ℕ) → length log ≤ d → answers d e.event.act e.reply ≡ false) → AreFresh (log ++ e ∷ []) answered
+pub fresh-longer : (log : List Entry) (e : Entry) (answered : List (ℕ × Bool)) → AreFresh log answered → ((d : ℕ) → length log ≤ d → takes_answer d e.event.act e.reply ≡ false) → AreFresh (log ++ e ∷ []) answered
 fresh-longer log e answered fresh none d past =
     let long = length-append log (e ∷ []) in
     let before : length log ≤ d = omega (arith, long) in
     let was = fresh d before in
-    (was.0, was_answered-append log e d ∙ (ap (λ b. b || answers d e.event.act e.reply) was.1 ∙ none d before))
+    (was.0, was_answered-append log e d ∙ (ap (λ b. b || takes_answer d e.event.act e.reply) was.1 ∙ none d before))
 
-pub was_answered-kept : (log : List Entry) (e : Entry) (d : ℕ) → answers d e.event.act e.reply ≡ false → was_answered (log ++ e ∷ []) d ≡ was_answered log d
-was_answered-kept log e d h = was_answered-append log e d ∙ by (was_answered log d) (answers d e.event.act e.reply) h
+pub was_answered-kept : (log : List Entry) (e : Entry) (d : ℕ) → takes_answer d e.event.act e.reply ≡ false → was_answered (log ++ e ∷ []) d ≡ was_answered log d
+was_answered-kept log e d h = was_answered-append log e d ∙ by (was_answered log d) (takes_answer d e.event.act e.reply) h
   where
     by : (a b : Bool) → b ≡ false → (a || b) ≡ a
     by true b h = refl
@@ -115,12 +111,12 @@ was_answered-kept log e d h = was_answered-append log e d ∙ by (was_answered l
 -- ---- handshakes
 
 -- what waits for handshakes is their lines after an entry that begins and ends none, and leaves their lines
-pub handshaking-kept : (log : List Entry) (e : Entry) (n : ℕ) (lines : Lines (HandshakeItem Key)) → handshakes_by n log e (handshakes_of log n) ≡ handshakes_of log n
+pub handshaking-kept : (log : List Entry) (e : Entry) (n : ℕ) (lines : Lines (HandshakeItem Key)) → handshakes_of (log ++ e ∷ []) n ≡ handshakes_of log n
     → ((k : ℕ) → line (log ++ e ∷ []) (queue.Handshake n k) ≡ line log (queue.Handshake n k))
     → ((k : ℕ) → HandshakeStands (line_of lines k) (is_handshaking log n k) (line log (queue.Handshake n k)))
     → (k : ℕ) → HandshakeStands (line_of lines k) (is_handshaking (log ++ e ∷ []) n k) (line (log ++ e ∷ []) (queue.Handshake n k))
 handshaking-kept log e n lines h same stands k =
-    subst (λ l. HandshakeStands (line_of lines k) (list_any (λ j. k == j) l) (line (log ++ e ∷ []) (queue.Handshake n k))) (sym (handshakes_of-kept log e n h))
+    subst (λ l. HandshakeStands (line_of lines k) (list_any (λ j. k == j) l) (line (log ++ e ∷ []) (queue.Handshake n k))) (sym h)
     (subst (HandshakeStands (line_of lines k) (is_handshaking log n k)) (sym (same k)) (stands k))
 
 -- from where a peer came stays so

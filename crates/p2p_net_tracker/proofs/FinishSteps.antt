@@ -16,10 +16,9 @@ use Rattle.p2p_log.specs.declared.entry.Entry.{Entry}
 use Rattle.p2p_log.specs.QueueCode.{same_queue}
 use Rattle.p2p_log.specs.Lines.{line}
 use Rattle.p2p_log_rules.specs.Connections.{ends_connection}
-use Rattle.p2p_log_rules.specs.Handshakes.{handshakes_by, handshakes_of, is_handshaking}
+use Rattle.p2p_log_rules.specs.Handshakes.{handshakes_of, is_handshaking}
 use Rattle.p2p_log_rules.specs.Tracking.{steps_tracker}
-use Rattle.p2p_log_rules.specs.TrackerRows.{answers}
-use Rattle.p2p_log_rules.proofs.Handshakes.{handshakes_of-kept}
+use Rattle.p2p_log_rules.specs.TrackerRows.{takes_answer}
 use Rattle.p2p_net_queues.specs.Board.{held}
 use Rattle.p2p_net_tracker.specs.Finishing.{told_finished}
 use Rattle.p2p_net_tracker.specs.declared.tracker.Tracker.{Tracker}
@@ -34,9 +33,9 @@ use Rattle.p2p_net_tracker.proofs.Moved.{tracker_moved, by_place}
 pub record FinishMoves (log : List Entry) (e : Entry) (n h place : ℕ) (ok : Bool) (t u : Tracker) : Type 0 where
   pub no_step : steps_tracker n e.event.act ≡ false
   pub no_question : asks_of n e.event.act ≡ None
-  pub no_answer : (d : ℕ) → answers d e.event.act e.reply ≡ false
-  pub no_end : (conn : ℕ) → ends_connection n conn e ≡ false
-  pub names : handshakes_by n log e (handshakes_of log n) ≡ handshakes_of log n
+  pub no_answer : (d : ℕ) → takes_answer d e.event.act e.reply ≡ false
+  pub no_end : (conn : ℕ) → ends_connection n conn log e ≡ false
+  pub names : handshakes_of (log ++ e ∷ []) n ≡ handshakes_of log n
   pub runs : is_handshaking log n h ≡ true
   pub rest : u ≡ record t { mailbox = with_item_in t.mailbox h (shake.Finished ok); told = u.told }
   pub mailbox : line (log ++ e ∷ []) (queue.Tracker n) ≡ line log (queue.Tracker n)
@@ -61,6 +60,7 @@ tracker_after_finish configs log e n h place ok t u s q =
       updates = refl;
       sets = refl;
       each = tt;
+      given = tt;
       waits = q.mailbox ∙ sym (append-nil (line log (queue.Tracker n)));
       dialer = subst (λ l. Match (λ y a. IsAnswer y.item a) l t.mailbox.dialer) (sym (q.lines (queue.Dialer n) (eq-eqb n n refl))) s.dialer;
       heard = subst (HeardStands t.mailbox.heard) (sym (q.lines (queue.Update n) (eq-eqb n n refl))) s.heard;
@@ -91,5 +91,5 @@ tracker_after_finish configs log e n h place ok t u s q =
     told_now k =
         let o = line_of (with_item t.mailbox.handshakes h (shake.Finished ok)) k in
         subst (HandshakeStands o (is_handshaking (log ++ e ∷ []) n k)) (sym (line_is k))
-        (subst (λ l. HandshakeStands o (list_any (λ j. k == j) l) (line log (queue.Handshake n k) ++ cond (is_at (nat_cmp h) k) (x ∷ []) [])) (sym (handshakes_of-kept log e n q.names))
+        (subst (λ l. HandshakeStands o (list_any (λ j. k == j) l) (line log (queue.Handshake n k) ++ cond (is_at (nat_cmp h) k) (x ∷ []) [])) (sym q.names)
         (item_told t.mailbox.handshakes h k (is_handshaking log n k) (line log (queue.Handshake n k)) x (shake.Finished ok) there refl (s.handshakes k)))

@@ -22,10 +22,10 @@ use Rattle.p2p_log.specs.declared.entry.Entry.{Entry}
 use Rattle.p2p_log.specs.QueueCode.{same_queue}
 use Rattle.p2p_log.specs.Lines.{line}
 use Rattle.p2p_log_rules.specs.Connections.{ends_connection}
-use Rattle.p2p_log_rules.specs.Handshakes.{unless_ended, handshakes_by, handshakes_of, is_handshaking}
+use Rattle.p2p_log_rules.specs.Handshakes.{handshakes_of, is_handshaking}
 use Rattle.p2p_log_rules.specs.Tracking.{steps_tracker}
-use Rattle.p2p_log_rules.specs.TrackerRows.{answers}
-use Rattle.p2p_log_rules.proofs.Handshakes.{handshakes_of-append, among-without}
+use Rattle.p2p_log_rules.specs.TrackerRows.{takes_answer}
+use Rattle.p2p_log_rules.proofs.Handshakes.{without_name, among-without}
 use Rattle.p2p_net_queues.specs.Board.{held}
 use Rattle.p2p_net_tracker.specs.Dialed.{names_asked}
 use Rattle.p2p_net_tracker.specs.declared.tracker.Tracker.{Tracker}
@@ -34,7 +34,7 @@ use Rattle.p2p_net_tracker.specs.Stands.{asks_of, is_told, IsAnswer, HeardStands
 use Rattle.p2p_net_tracker.proofs.Distinct.{distinct-with_line}
 use Rattle.p2p_net_tracker.proofs.Ended.{noted_stay}
 use Rattle.p2p_net_queues.proofs.Matching.{Match-drop}
-use Rattle.p2p_net_tracker.proofs.Moved.{tracker_moved, by_place, asked_line, names_are, asked_messages, asked_desk, IsAsked, asked_match, desk_grows}
+use Rattle.p2p_net_tracker.proofs.Moved.{tracker_moved, by_place, asked_line, names_are, asked_messages, asked_desk, IsAsked, asked_match, IsAskedBack, asked_back, desk_grows}
 
 -- what is left for a handshake of which a step took its oldest item, or which ended
 abbrev pub after_step : Bool → Option (List (HandshakeItem Key)) → Option (List (HandshakeItem Key))
@@ -49,13 +49,14 @@ left_after false l = drop 1 l
 pub record HandshakeMoves (log : List Entry) (e : Entry) (n h : ℕ) (t u : Tracker) (ended : Bool) (asked : Option Item) (put : Option (Message Key)) : Type 0 where
   pub no_step : steps_tracker n e.event.act ≡ false
   pub no_question : asks_of n e.event.act ≡ None
-  pub no_answer : (d : ℕ) → answers d e.event.act e.reply ≡ false
-  pub no_end : (conn : ℕ) → ends_connection n conn e ≡ false
-  pub names : handshakes_by n log e (handshakes_of log n) ≡ unless_ended ended h (handshakes_of log n)
+  pub no_answer : (d : ℕ) → takes_answer d e.event.act e.reply ≡ false
+  pub no_end : (conn : ℕ) → ends_connection n conn log e ≡ false
+  pub names : handshakes_of (log ++ e ∷ []) n ≡ cond ended (without_name h (handshakes_of log n)) (handshakes_of log n)
   pub rest : u ≡ record t { mailbox = record t.mailbox { desk = asked_desk t.mailbox.desk put; handshakes = u.mailbox.handshakes }; names = t.names ++ names_asked (length log) asked; told = u.told }
   pub waiting : (k : ℕ) → line_of u.mailbox.handshakes k ≡ cond (k == h) (after_step ended (line_of t.mailbox.handshakes h)) (line_of t.mailbox.handshakes k)
   pub distinct : AreDistinct u.mailbox.handshakes
   pub says : IsAsked t.tickets (log ++ e ∷ []) asked put
+  pub given : IsAskedBack (log ++ e ∷ []) (length log) put
   pub mailbox : line (log ++ e ∷ []) (queue.Tracker n) ≡ line log (queue.Tracker n) ++ asked_line n (length log) asked
   pub lines : (p : Queue) → is_told n p ≡ true → line (log ++ e ∷ []) p ≡ cond (same_queue (queue.Handshake n h) p) (left_after ended (line log p)) (line log p)
   pub told : (p : Queue) → held u.told p ≡ (if same_queue (queue.Handshake n h) p then left_after ended (held t.told p) else held t.told p)
@@ -89,6 +90,7 @@ tracker_after_handshake configs log e n h t u ended asked put s q =
       updates = grows.updates;
       sets = grows.sets;
       each = asked_match t.tickets (log ++ e ∷ []) n (length log) asked put q.says;
+      given = asked_back t.tickets (log ++ e ∷ []) (log ++ e ∷ []) n (length log) asked put q.says q.given;
       waits = q.mailbox;
       dialer = subst (λ l. Match (λ x a. IsAnswer x.item a) l t.mailbox.dialer) (sym (q.lines (queue.Dialer n) (eq-eqb n n refl))) s.dialer;
       heard = subst (HeardStands t.mailbox.heard) (sym (q.lines (queue.Update n) (eq-eqb n n refl))) s.heard;
@@ -101,12 +103,12 @@ tracker_after_handshake configs log e n h t u ended asked put s q =
     same n h k = grind (arith, nat_tests)
 
     -- which handshakes run
-    running_by : (b : Bool) (k : ℕ) → list_any (λ j. k == j) (unless_ended b h (handshakes_of log n)) ≡ cond b (not (k == h) && is_handshaking log n k) (is_handshaking log n k)
+    running_by : (b : Bool) (k : ℕ) → list_any (λ j. k == j) (cond b (without_name h (handshakes_of log n)) (handshakes_of log n)) ≡ cond b (not (k == h) && is_handshaking log n k) (is_handshaking log n k)
     running_by true k = among-without h k (handshakes_of log n)
     running_by false k = refl
 
     running : (k : ℕ) → is_handshaking (log ++ e ∷ []) n k ≡ cond ended (not (k == h) && is_handshaking log n k) (is_handshaking log n k)
-    running k = ap (list_any (λ j. k == j)) (handshakes_of-append log e n ∙ q.names) ∙ running_by ended k
+    running k = ap (list_any (λ j. k == j)) q.names ∙ running_by ended k
 
     -- what waits for each
     waits_by : (b : Bool) (k : ℕ) → (k == h) ≡ b → cond b (after_step ended (line_of t.mailbox.handshakes h)) (line_of t.mailbox.handshakes k) ≡ cond b (after_step ended (line_of t.mailbox.handshakes k)) (line_of t.mailbox.handshakes k)

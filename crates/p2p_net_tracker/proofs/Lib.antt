@@ -10,6 +10,7 @@ pub mod EndSteps
 pub mod Ended
 pub mod Facts
 pub mod FinishSteps
+pub mod GivenBack
 pub mod HandshakeSteps
 pub mod Hearing
 pub mod LateKills

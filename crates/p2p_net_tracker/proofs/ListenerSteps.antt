@@ -6,6 +6,7 @@ use Rattle.std.specs.List.{list_any}
 use Rattle.std.specs.Ordering.{nat_cmp}
 use Rattle.std.proofs.lemmas.Bool.Decides.{nat_tests}
 use Rattle.std.proofs.lemmas.List.Folds.{list_any-append}
+use Rattle.p2p_log_rules.proofs.Bools.{or_true}
 use Rattle.p2p_address.specs.declared.ip.IpAddr.{IpAddr}
 use Rattle.p2p_base.specs.declared.key.Key.{Key}
 use Rattle.p2p_tracker_mailbox.specs.Lines.{Lines, line_of, begun}
@@ -21,10 +22,10 @@ use Rattle.p2p_log.specs.QueueCode.{same_queue}
 use Rattle.p2p_log.specs.Lines.{line}
 use Rattle.p2p_log.proofs.Queues.{same_queue-refl}
 use Rattle.p2p_log_rules.specs.Connections.{ends_connection}
-use Rattle.p2p_log_rules.specs.Handshakes.{handshakes_by, handshakes_of, is_handshaking, source_at}
+use Rattle.p2p_log_rules.specs.Handshakes.{handshakes_of, is_handshaking, source_at}
 use Rattle.p2p_log_rules.specs.Tracking.{steps_tracker}
-use Rattle.p2p_log_rules.specs.TrackerRows.{answers}
-use Rattle.p2p_log_rules.proofs.Handshakes.{handshakes_of-append, none_later}
+use Rattle.p2p_log_rules.specs.TrackerRows.{takes_answer}
+use Rattle.p2p_log_rules.proofs.Handshakes.{none_later}
 use Rattle.p2p_net_queues.specs.Board.{held}
 use Rattle.p2p_net_queues.proofs.Tables.{lookup-insert_entry}
 use Rattle.p2p_net_tracker.specs.declared.tracker.Tracker.{Tracker}
@@ -42,9 +43,9 @@ use Rattle.p2p_net_tracker.proofs.Moved.{tracker_moved, by_place}
 pub record UpdateMoves (log : List Entry) (e : Entry) (n : ℕ) (t u : Tracker) : Type 0 where
   pub no_step : steps_tracker n e.event.act ≡ false
   pub no_question : asks_of n e.event.act ≡ None
-  pub no_answer : (d : ℕ) → answers d e.event.act e.reply ≡ false
-  pub no_end : (conn : ℕ) → ends_connection n conn e ≡ false
-  pub no_admission : handshakes_by n log e (handshakes_of log n) ≡ handshakes_of log n
+  pub no_answer : (d : ℕ) → takes_answer d e.event.act e.reply ≡ false
+  pub no_end : (conn : ℕ) → ends_connection n conn log e ≡ false
+  pub no_admission : handshakes_of (log ++ e ∷ []) n ≡ handshakes_of log n
   pub rest : u ≡ record t { mailbox = record t.mailbox { heard = None }; told = u.told }
   pub mailbox : line (log ++ e ∷ []) (queue.Tracker n) ≡ line log (queue.Tracker n)
   pub lines : (p : Queue) → is_told n p ≡ true → line (log ++ e ∷ []) p ≡ cond (same_queue (queue.Update n) p) (drop 1 (line log p)) (line log p)
@@ -66,6 +67,7 @@ tracker_updated configs log e n t u s q =
       updates = refl;
       sets = refl;
       each = tt;
+      given = tt;
       waits = q.mailbox ∙ sym (append-nil (line log (queue.Tracker n)));
       dialer = subst (λ l. Match (λ x a. IsAnswer x.item a) l t.mailbox.dialer) (sym (q.lines (queue.Dialer n) (eq-eqb n n refl))) s.dialer;
       heard =
@@ -82,9 +84,9 @@ tracker_updated configs log e n t u s q =
 pub record AskMoves (log : List Entry) (e : Entry) (n : ℕ) (t u : Tracker) (key : Key) (source : IpAddr) : Type 0 where
   pub no_step : steps_tracker n e.event.act ≡ false
   pub no_question : asks_of n e.event.act ≡ None
-  pub no_answer : (d : ℕ) → answers d e.event.act e.reply ≡ false
-  pub no_end : (conn : ℕ) → ends_connection n conn e ≡ false
-  pub admits : handshakes_by n log e (handshakes_of log n) ≡ handshakes_of log n ++ length log ∷ []
+  pub no_answer : (d : ℕ) → takes_answer d e.event.act e.reply ≡ false
+  pub no_end : (conn : ℕ) → ends_connection n conn log e ≡ false
+  pub admits : handshakes_of (log ++ e ∷ []) n ≡ handshakes_of log n ++ length log ∷ []
   pub source_is : source_at (log ++ e ∷ []) (length log) ≡ Some source
   pub rest : u ≡ record t { mailbox = record t.mailbox { desk = u.mailbox.desk; handshakes = begun t.mailbox.handshakes (length log) }; names = t.names ++ (length log, 0) ∷ [] }
   pub items : u.mailbox.desk.messages.items ≡ t.mailbox.desk.messages.items ++ message.Acceptable key source (length log) ∷ []
@@ -120,10 +122,6 @@ begun_stands o b false l fresh h = subst (λ d. HandshakeStands o d l) (or_false
     or_false true = refl
     or_false false = refl
 begun_stands o b true l fresh h = (or_true b, subst (λ (k : List Envelope). Match (λ (x : Envelope) i. IsToldHandshake x.item i) k []) (sym (none_waits o b l (fresh refl) h).1) tt)
-  where
-    or_true : (b : Bool) → (b || true) ≡ true
-    or_true true = refl
-    or_true false = refl
 
 pub tracker_asked : (configs : List Config) (log : List Entry) (e : Entry) (n : ℕ) (t u : Tracker) (key : Key) (source : IpAddr) → TrackerStands configs log n t → AskMoves log e n t u key source
     → TrackerStands configs (log ++ e ∷ []) n u
@@ -143,6 +141,7 @@ tracker_asked configs log e n t u key source s q =
       updates = q.updates;
       sets = q.sets;
       each = ((source, q.source_is, refl), tt);
+      given = (tt, tt);
       waits = q.waits;
       dialer = subst (λ l. Match (λ y a. IsAnswer y.item a) l t.mailbox.dialer) (sym (q.lines (queue.Dialer n) (eq-eqb n n refl))) s.dialer;
       heard = subst (HeardStands t.mailbox.heard) (sym (q.lines (queue.Update n) (eq-eqb n n refl))) s.heard;
@@ -163,7 +162,7 @@ tracker_asked configs log e n t u key source s q =
         (none_waits (line_of t.mailbox.handshakes k) (is_handshaking log n k) (line log (queue.Handshake n k)) (none_later log n k (here k)) (s.handshakes k)).0
 
     running : (k : ℕ) → is_handshaking (log ++ e ∷ []) n k ≡ (is_handshaking log n k || ((k == length log) || false))
-    running k = ap (list_any (λ j. k == j)) (handshakes_of-append log e n ∙ q.admits) ∙ list_any-append (λ j. k == j) (handshakes_of log n) (length log ∷ [])
+    running k = ap (list_any (λ j. k == j)) q.admits ∙ list_any-append (λ j. k == j) (handshakes_of log n) (length log ∷ [])
 
     told_now : (k : ℕ) → HandshakeStands (line_of (begun t.mailbox.handshakes (length log)) k) (is_handshaking (log ++ e ∷ []) n k) (line (log ++ e ∷ []) (queue.Handshake n k))
     told_now k =

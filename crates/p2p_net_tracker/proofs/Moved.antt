@@ -19,10 +19,11 @@ use Rattle.p2p_log.proofs.Queues.{same_queue-refl}
 use Rattle.p2p_log_rules.specs.Connections.{is_ended}
 use Rattle.p2p_log_rules.specs.Handshakes.{is_handshaking}
 use Rattle.p2p_log_rules.specs.Tracking.{key_cmp, steps_tracker}
-use Rattle.p2p_log_rules.specs.TrackerRows.{answers}
+use Rattle.p2p_log_rules.specs.TrackerRows.{takes_answer}
 use Rattle.p2p_net_queues.specs.Board.{held}
 use Rattle.p2p_net_queues.proofs.Going.{put_in}
 use Rattle.p2p_net_tracker.specs.Dialed.{asked_puts, names_asked}
+use Rattle.p2p_net_tracker.specs.GivenBack.{IsGivenBack}
 use Rattle.p2p_net_tracker.specs.Heeding.{is_noted}
 use Rattle.p2p_net_tracker.specs.declared.naming.Tickets.{Tickets}
 use Rattle.p2p_net_tracker.specs.declared.tracker.Tracker.{Tracker}
@@ -31,12 +32,13 @@ use Rattle.p2p_net_tracker.specs.Stands.{asks_of, is_told, IsTicket, IsMessage, 
 use Rattle.p2p_net_tracker.proofs.Changes.{same_tickets, messages-longer, told_apart, kept_open}
 use Rattle.p2p_net_tracker.proofs.Facts.{asks_at-kept, fresh-longer, was_answered-kept, calls-kept, update_subscriptions-kept, blocked_subscriptions-kept}
 use Rattle.p2p_net_queues.proofs.Matching.{Match-append}
+use Rattle.p2p_net_tracker.proofs.GivenBack.{all_given-longer}
 
 -- what the entry makes of the tracker: these messages wait in these envelopes beside those before
 pub record TrackerMoves (log : List Entry) (e : Entry) (n : ℕ) (t u : Tracker) (xs : List Envelope) (ms : List (Message Key)) : Type 0 where
   pub no_step : steps_tracker n e.event.act ≡ false
   pub no_question : asks_of n e.event.act ≡ None
-  pub no_answer : (d : ℕ) → answers d e.event.act e.reply ≡ false
+  pub no_answer : (d : ℕ) → takes_answer d e.event.act e.reply ≡ false
   pub rest : u ≡ record t { mailbox = u.mailbox; names = t.names ++ map name_of xs; ended = u.ended; told = u.told }
   pub ended : (conn : ℕ) → is_noted u.ended conn ≡ is_ended (log ++ e ∷ []) n conn
   -- what waits for it
@@ -47,6 +49,7 @@ pub record TrackerMoves (log : List Entry) (e : Entry) (n : ℕ) (t u : Tracker)
   pub updates : length u.mailbox.desk.updates ≡ length t.mailbox.desk.updates
   pub sets : length u.mailbox.desk.sets ≡ length t.mailbox.desk.sets
   pub each : Match (λ x m. IsMessage t.tickets (log ++ e ∷ []) x.item m) xs ms
+  pub given : Match (λ x m. IsGivenBack (log ++ e ∷ []) x.entry m) xs ms
   pub waits : line (log ++ e ∷ []) (queue.Tracker n) ≡ line log (queue.Tracker n) ++ xs
   -- what it told
   pub dialer : Match (λ x a. IsAnswer x.item a) (line (log ++ e ∷ []) (queue.Dialer n)) u.mailbox.dialer
@@ -72,6 +75,10 @@ tracker_moved configs log e n t u xs ms s q =
           (subst (Match (λ (x : Envelope) m. IsMessage t.tickets (log ++ e ∷ []) x.item m) (line log (queue.Tracker n) ++ xs)) (sym q.items)
           (Match-append (λ (x : Envelope) m. IsMessage t.tickets (log ++ e ∷ []) x.item m) (line log (queue.Tracker n)) xs t.mailbox.desk.messages.items ms
           (messages-longer t.tickets t.tickets (same_tickets t.tickets) log (e ∷ []) (line log (queue.Tracker n)) t.mailbox.desk.messages.items s.messages) q.each));
+      given_back = subst (λ l. Match (λ x m. IsGivenBack (log ++ e ∷ []) x.entry m) l u.mailbox.desk.messages.items) (sym q.waits)
+          (subst (Match (λ (x : Envelope) m. IsGivenBack (log ++ e ∷ []) x.entry m) (line log (queue.Tracker n) ++ xs)) (sym q.items)
+          (Match-append (λ (x : Envelope) m. IsGivenBack (log ++ e ∷ []) x.entry m) (line log (queue.Tracker n)) xs t.mailbox.desk.messages.items ms
+          (all_given-longer log (e ∷ []) (line log (queue.Tracker n)) t.mailbox.desk.messages.items s.given_back) q.given));
       questions = q.questions ∙ s.questions;
       updates = q.updates ∙ s.updates;
       sets = q.sets ∙ s.sets;
@@ -140,6 +147,18 @@ asked_match t log n k None None h = tt
 asked_match t log n k (Some i) (Some m) h = (h, tt)
 asked_match t log n k None (Some m) h = absurd h
 asked_match t log n k (Some i) None h = absurd h
+
+-- what it gives back is of the side that the entry tells
+abbrev pub IsAskedBack : List Entry → ℕ → Option (Message Key) → Type 0
+IsAskedBack log k None = Unit {0}
+IsAskedBack log k (Some m) = IsGivenBack log k m
+
+pub asked_back : (t : Tickets) (log later : List Entry) (n k : ℕ) (asked : Option Item) (put : Option (Message Key)) → IsAsked t log asked put → IsAskedBack later k put
+    → Match (λ x m. IsGivenBack later x.entry m) (asked_line n k asked) (asked_messages put)
+asked_back t log later n k None None h given = tt
+asked_back t log later n k (Some i) (Some m) h given = (given, tt)
+asked_back t log later n k None (Some m) h given = absurd h
+asked_back t log later n k (Some i) None h given = absurd h
 
 -- a desk with these messages more, and as many tickets
 pub record GrowsDesk (old new : Desk Key) (ms : List (Message Key)) : Type 0 where

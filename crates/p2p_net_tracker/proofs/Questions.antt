@@ -24,9 +24,10 @@ use Rattle.p2p_log.specs.Lines.{line}
 use Rattle.p2p_log_rules.specs.declared.row.Row.{Row}
 use Rattle.p2p_log_rules.specs.Effect.{entry_of}
 use Rattle.p2p_log_rules.specs.Rows.{only, mailbox_size_at}
-use Rattle.p2p_log_rules.specs.Handshakes.{handshakes_by, handshakes_of}
+use Rattle.p2p_log_rules.proofs.Families.{kinds_of, are_apart}
+use Rattle.p2p_log_rules.proofs.Handshakes.{handshake_kinds, handshakes_of-apart}
 use Rattle.p2p_log_rules.specs.Tracking.{key_cmp, steps_tracker}
-use Rattle.p2p_log_rules.specs.TrackerRows.{answers, was_answered, asked_row, most_peers_at, size_at, track_row, ask_row}
+use Rattle.p2p_log_rules.specs.TrackerRows.{takes_answer, was_answered, asked_row, most_peers_at, size_at, track_row, ask_row}
 use Rattle.p2p_net_queues.specs.Board.{held}
 use Rattle.p2p_net_queues.specs.Tables as table
 use Rattle.p2p_net_queues.proofs.Tables.{lookup-insert_entry}
@@ -65,8 +66,8 @@ asks_here : (n : ℕ) (what : Asked) → asks_of n (act.Ask what n) ≡ kind_of 
 asks_here n what = ap (λ b. cond b (kind_of what) None) (eq-eqb n n refl)
 
 module _ (configs : List Config) (log : List Entry) (at seed n : ℕ) (a : Act) (t u : Tracker) (r : Row) (s : TrackerStands configs log n t) (is : r ≡ asking_row (told_of t.mailbox.desk) n (length log))
-    (no_step : steps_tracker n a ≡ false) (no_answer : (d : ℕ) → answers d a r.reply ≡ false) (no_half : steps_half n a ≡ false)
-    (no_admission : handshakes_by n log (entry_of (record { at = at; seed = seed; act = a }) r) (handshakes_of log n) ≡ handshakes_of log n) where
+    (no_step : steps_tracker n a ≡ false) (no_answer : (d : ℕ) → takes_answer d a r.reply ≡ false) (no_half : steps_half n a ≡ false)
+    (no_admission : are_apart (kinds_of a) handshake_kinds ≡ true) where
   abbrev e : Entry
   e = entry_of (record { at = at; seed = seed; act = a }) r
 
@@ -74,8 +75,8 @@ module _ (configs : List Config) (log : List Entry) (at seed n : ℕ) (a : Act) 
   asks = record {
     no_step = no_step;
     no_answer = no_answer;
-    no_end = no_end-act n e no_half;
-    no_admission = no_admission;
+    no_end = no_end-act n log e no_half;
+    no_admission = handshakes_of-apart log e n no_admission;
     takes = ap (λ (k : Row). k.takes) is;
     puts = ap (λ (k : Row). k.puts) is;
     ends = ap (λ (k : Row). k.ends) is;

@@ -17,14 +17,17 @@ use Rattle.p2p_log_rules.specs.declared.row.Row.{Row}
 use Rattle.p2p_log_rules.specs.Effect.{entry_of}
 use Rattle.p2p_log_rules.specs.Handshakes.{is_handshaking}
 use Rattle.p2p_log_rules.specs.Tracking.{key_cmp, calls_of, update_subscriptions, blocked_subscriptions}
-use Rattle.p2p_log_rules.proofs.Handshakes.{handshakes_of-kept}
+use Rattle.p2p_log_rules.proofs.Connections.{ends_untold}
+use Rattle.p2p_log_rules.proofs.Handshakes.{handshakes_of-apart}
 use Rattle.p2p_net_queues.specs.Board.{held}
+use Rattle.p2p_net_tracker.specs.GivenBack.{IsGivenBack}
 use Rattle.p2p_net_tracker.specs.declared.tracker.Tracker.{Tracker}
 use Rattle.p2p_net_queues.specs.Matching.{Match}
 use Rattle.p2p_net_tracker.specs.Stands.{is_told, IsTicket, IsMessage, IsAnswer, HeardStands, HandshakeStands, AreDistinct, TrackerStands}
 use Rattle.p2p_net_tracker.proofs.Changes.{same_tickets, messages-longer}
 use Rattle.p2p_net_tracker.proofs.Desk.{LeavesDesk}
 use Rattle.p2p_net_tracker.proofs.Ended.{noted_stay}
+use Rattle.p2p_net_tracker.proofs.GivenBack.{all_given-longer}
 use Rattle.p2p_net_tracker.proofs.Facts.{asks_at-kept, fresh-longer, was_answered-kept}
 
 -- the entry of a step with this row
@@ -43,6 +46,7 @@ pub record Left (configs : List Config) (log : List Entry) (at seed n : ℕ) (t 
   pub mailbox : line (log ++ step_entry at seed n r ∷ []) (queue.Tracker n) ≡ waits
   pub names_left : u.names ≡ map name_of waits
   pub each : Match (λ x m. IsMessage t.tickets log x.item m) waits messages
+  pub given : Match (λ x m. IsGivenBack log x.entry m) waits messages
   pub desk : LeavesDesk t.mailbox.desk (record u.mailbox.desk { messages = record u.mailbox.desk.messages { items = t.mailbox.desk.messages.items } })
   pub items : u.mailbox.desk.messages.items ≡ messages
   pub answered : Match (λ x a. IsAnswer x.item a) (line (log ++ step_entry at seed n r ∷ []) (queue.Dialer n)) u.mailbox.dialer
@@ -68,6 +72,8 @@ stands_after configs log at seed n t u r waits messages s h =
       messages = subst (λ l. Match (λ x m. IsMessage t.tickets (log ++ e ∷ []) x.item m) l u.mailbox.desk.messages.items) (sym h.mailbox)
           (subst (Match (λ (x : Envelope) m. IsMessage t.tickets (log ++ e ∷ []) x.item m) waits) (sym h.items)
           (messages-longer t.tickets t.tickets (same_tickets t.tickets) log (e ∷ []) waits messages h.each));
+      given_back = subst (λ l. Match (λ x m. IsGivenBack (log ++ e ∷ []) x.entry m) l u.mailbox.desk.messages.items) (sym h.mailbox)
+          (subst (Match (λ (x : Envelope) m. IsGivenBack (log ++ e ∷ []) x.entry m) waits) (sym h.items) (all_given-longer log (e ∷ []) waits messages h.given));
       questions = h.desk.questions ∙ s.questions;
       updates = h.desk.updates ∙ s.updates;
       sets = h.desk.sets ∙ s.sets;
@@ -76,10 +82,10 @@ stands_after configs log at seed n t u r waits messages s h =
       asked = λ d. s.asked d ∙ sym (asks_at-kept log e n d refl);
       answered = λ d is. s.answered d (sym (asks_at-kept log e n d refl) ∙ is) ∙ sym (was_answered-kept log e d refl);
       fresh = fresh-longer log e t.answered s.fresh (λ d past. refl);
-      ended = noted_stay log e n t.ended s.ended (λ conn. refl);
+      ended = noted_stay log e n t.ended s.ended (λ conn. ends_untold log e n conn (act.Tracker n) refl refl);
       dialer = h.answered;
       heard = h.heard_left;
-      handshakes = λ k. subst (λ l. HandshakeStands (line_of u.mailbox.handshakes k) (list_any (λ j. k == j) l) (line (log ++ e ∷ []) (queue.Handshake n k))) (sym (handshakes_of-kept log e n refl)) (h.told_handshakes k);
+      handshakes = λ k. subst (λ l. HandshakeStands (line_of u.mailbox.handshakes k) (list_any (λ j. k == j) l) (line (log ++ e ∷ []) (queue.Handshake n k))) (sym (handshakes_of-apart log e n refl)) (h.told_handshakes k);
       distinct = h.distinct;
       told = h.told_left;
     })

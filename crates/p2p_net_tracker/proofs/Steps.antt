@@ -43,12 +43,13 @@ use Rattle.p2p_log_rules.specs.Rows.{only}
 use Rattle.p2p_log_rules.specs.Tracking.{key_cmp, rules_at, grants_peer, calls_of, update_subscriptions, blocked_subscriptions}
 use Rattle.p2p_log_rules.specs.TrackerPuts as puts
 use Rattle.p2p_log_rules.specs.TrackerPuts.{heeded}
-use Rattle.p2p_log_rules.specs.TrackerRows.{rings_of, told_row, served_row, tracker_step}
+use Rattle.p2p_log_rules.specs.TrackerRows.{rings_of, tracker_told_row, served_row, tracker_step}
 use Rattle.p2p_log_rules.proofs.Recorded.{item_named-first}
 use Rattle.p2p_net_queues.specs.Board.{held}
 use Rattle.p2p_net_queues.specs.Rows.{taken_row}
 use Rattle.p2p_net_queues.proofs.Going.{line-kept}
 use Rattle.p2p_net_tracker.specs.declared.tracker.Tracker.{Tracker}
+use Rattle.p2p_net_tracker.specs.GivenBack.{IsGivenBack}
 use Rattle.p2p_net_tracker.specs.Heeding.{is_noted, heeded_by}
 use Rattle.p2p_net_tracker.specs.Naming.{named_puts}
 use Rattle.p2p_net_tracker.specs.Telling.{lost, told_in, told_to}
@@ -155,13 +156,13 @@ module _ (configs : List Config) (log : List Entry) (at seed n : ℕ) (t u : Tra
       }
 
   row_now : (names : List (ℕ × ℕ)) (before : Row) (put : List (Put Key)) (xs : List puts.Put) → Tells (length log) before (named_puts n t.tickets put) t u r → before ≡ record { reply = reply.Ok; takes = names; puts = []; ends = [] }
-      → ((p : Queue) → is_told n p ≡ true → filter (stands_in p) (filter (stays names) (live log)) ≡ line log p) → named_puts n t.tickets put ≡ xs → r ≡ told_row log names xs
+      → ((p : Queue) → is_told n p ≡ true → filter (stands_in p) (filter (stays names) (live log)) ≡ line log p) → named_puts n t.tickets put ≡ xs → r ≡ tracker_told_row log names xs
   row_now names before put xs tells is away named =
       let ys = named_puts n t.tickets put in
       tells.row
       ∙ (ap (told_in (held t.told) ys) is
       ∙ (ap (λ l. record { reply = reply.Ok; takes = names; puts = ys; ends = l }) (lost_is log n names ys (held t.told) (named-each n t.tickets put) away s.told)
-      ∙ ap (told_row log names) named))
+      ∙ ap (tracker_told_row log names) named))
 
   told_after : (names : List (ℕ × ℕ)) (before : Row) (put : List (Put Key)) → Tells (length log) before (named_puts n t.tickets put) t u r → before.puts ≡ [] → Told log e n names (named_puts n t.tickets put)
       → (q : Queue) → is_told n q ≡ true → held u.told q ≡ line (log ++ e ∷ []) q
@@ -208,7 +209,7 @@ module _ (configs : List Config) (log : List Entry) (at seed n : ℕ) (t u : Tra
   after_unblocked : (put : List (Put Key)) → ActorSteps t.actor u.actor t.mailbox u.mailbox at seed (stepped.EndedBlocks put) → TellsBy (stepped.EndedBlocks put) (length log) n t u r
       → u ≡ record t { actor = u.actor; mailbox = u.mailbox; names = u.names; told = u.told }
       → put ≡ unblocked key_cmp rules t.actor.updates t.actor.sets t.mailbox.desk.sets t.mailbox.heard calls at (call.UnblockExpired at)
-      → (r ≡ told_row log [] (puts.unblocked_puts rules n at us bs calls (call.UnblockExpired at))) × TrackerStands configs (log ++ e ∷ []) n u
+      → (r ≡ tracker_told_row log [] (puts.unblocked_puts rules n at us bs calls (call.UnblockExpired at))) × TrackerStands configs (log ++ e ∷ []) n u
   after_unblocked put steps tells rest is =
       let kept = heed put in
       let telling = tells_heeded (only reply.Ok) put tells.0 in
@@ -244,6 +245,7 @@ module _ (configs : List Config) (log : List Entry) (at seed n : ℕ) (t u : Tra
           mailbox = waits;
           names_left = tells.1 ∙ s.names;
           each = s.messages;
+          given = s.given_back;
           desk = record {
             messages = ap (λ (m : Mailbox Key). record m.desk.messages { items = t.mailbox.desk.messages.items }) mailbox ∙ ap (λ (q : base.Queue (Message Key)). record q { items = t.mailbox.desk.messages.items }) desk.messages;
             questions = ap (λ (m : Mailbox Key). length m.desk.questions) mailbox ∙ desk.questions;
@@ -266,7 +268,7 @@ module _ (configs : List Config) (log : List Entry) (at seed n : ℕ) (t u : Tra
       → ActorSteps t.actor u.actor t.mailbox u.mailbox at seed (stepped.Message put) → TellsBy (stepped.Message put) (length log) n t u r
       → u ≡ record t { actor = u.actor; mailbox = u.mailbox; names = u.names; told = u.told }
       → put ≡ puts_for key_cmp rules t.actor.updates t.actor.sets t.mailbox.desk.sets t.mailbox.heard (runs_in t.mailbox) calls at m
-      → (r ≡ told_row log (name_of x ∷ []) (heeded (is_ended log n) (puts.item_puts rules n at us bs calls log x.item))) × TrackerStands configs (log ++ e ∷ []) n u
+      → (r ≡ tracker_told_row log (name_of x ∷ []) (heeded (is_ended log n) (puts.item_puts rules n at us bs calls log x.item))) × TrackerStands configs (log ++ e ∷ []) n u
   after_message x waits m ms i put first items is says asker each steps tells rest puts_is =
       let name : slice_get t.names 0 ≡ Some (name_of x) = ap (λ l. slice_get l 0) (s.names ∙ ap (map name_of) first) in
       let kept = heed put in
@@ -288,14 +290,14 @@ module _ (configs : List Config) (log : List Entry) (at seed n : ℕ) (t u : Tra
       (ap (named_puts n t.tickets) puts_is ∙ named-item n t.tickets rules t.mailbox.heard at t.actor.updates t.actor.sets us bs t.mailbox.desk.sets s.subscribed s.subscribed_blocked (runs_in t.mailbox) calls log i m
       (λ k. runs_is (line_of t.mailbox.handshakes k) (is_handshaking log n k) (line log (queue.Handshake n k)) (s.handshakes k)) says)
       in
-      let row_is : r ≡ told_row log (name_of x ∷ []) due = row_now (name_of x ∷ []) (taken_row (name_of x)) kept due telling refl away named in
+      let row_is : r ≡ tracker_told_row log (name_of x ∷ []) due = row_now (name_of x ∷ []) (taken_row (name_of x)) kept due telling refl away named in
       let few : TellsFew (runs_in start) kept =
       few-late (is_noted t.ended) (runs_in start) put
       (subst (TellsFew (runs_in t.mailbox)) (sym puts_is) (item_few rules t.actor.updates t.actor.sets t.mailbox.desk.sets t.mailbox.heard (runs_in t.mailbox) calls at t.tickets log i m says))
       in
       let grants : list_any grants_peer r.puts ≡ list_any grants_peer xs = ap (λ (k : Row). list_any grants_peer k.puts) row_is ∙ grants-late (is_ended log n) xs
       in (
-        row_is ∙ ap (λ k. told_row log (name_of x ∷ []) (heeded (is_ended log n) (puts.item_puts rules n at us bs calls log k))) (sym is),
+        row_is ∙ ap (λ k. tracker_told_row log (name_of x ∷ []) (heeded (is_ended log n) (puts.item_puts rules n at us bs calls log k))) (sym is),
         stands_after configs log at seed n t u r waits ms s (record {
           rest = rest;
           rules = steps.step.rules;
@@ -314,6 +316,7 @@ module _ (configs : List Config) (log : List Entry) (at seed n : ℕ) (t u : Tra
           mailbox = mailbox-told log e n (name_of x ∷ []) (named_puts n t.tickets kept) told ∙ mailbox_first log n x waits first;
           names_left = tells.1 ∙ ap (drop 1) (s.names ∙ ap (map name_of) first);
           each = each;
+          given = (subst (λ l. Match (λ (y : Envelope) k. IsGivenBack log y.entry k) l (m ∷ ms)) first (subst (Match (λ (y : Envelope) k. IsGivenBack log y.entry k) (line log (queue.Tracker n))) items s.given_back)).1;
           desk = record {
             messages = ap (λ (k : Mailbox Key). record k.desk.messages { items = t.mailbox.desk.messages.items }) mailbox ∙ ap (λ (q : base.Queue (Message Key)). record q { items = t.mailbox.desk.messages.items }) desk.messages;
             questions = ap (λ (k : Mailbox Key). length k.desk.questions) mailbox ∙ desk.questions;
@@ -356,6 +359,7 @@ module _ (configs : List Config) (log : List Entry) (at seed n : ℕ) (t u : Tra
           mailbox = same (queue.Tracker n);
           names_left = tells.1 ∙ s.names;
           each = s.messages;
+          given = s.given_back;
           desk = record {
             messages = ap (λ (m : Mailbox Key). record m.desk.messages { items = t.mailbox.desk.messages.items }) mailbox;
             questions = ap (λ (m : Mailbox Key). length m.desk.questions) mailbox;
@@ -410,12 +414,12 @@ module _ (configs : List Config) (log : List Entry) (at seed n : ℕ) (t u : Tra
     by_due true due is =
         let k = as_step (stepped.EndedBlocks unblocked_is) is in
         let done = after_unblocked unblocked_is k.0 k.1 rest refl in (
-          done.0 ∙ ap (λ b. cond b (told_row log [] (puts.unblocked_puts rules n at us bs calls (call.UnblockExpired at))) (served_row configs log n at (line log (queue.Tracker n)))) (sym (sym (has_any-is (due_keys key_cmp rules calls at)) ∙ due)),
+          done.0 ∙ ap (λ b. cond b (tracker_told_row log [] (puts.unblocked_puts rules n at us bs calls (call.UnblockExpired at))) (served_row configs log n at (line log (queue.Tracker n)))) (sym (sym (has_any-is (due_keys key_cmp rules calls at)) ∙ due)),
           done.1,
         )
     by_due false due is =
         let done = by_line (line log (queue.Tracker n)) t.mailbox.desk.messages.items refl refl s.messages is in (
-          done.0 ∙ ap (λ b. cond b (told_row log [] (puts.unblocked_puts rules n at us bs calls (call.UnblockExpired at))) (served_row configs log n at (line log (queue.Tracker n)))) (sym (sym (has_any-is (due_keys key_cmp rules calls at)) ∙ due)),
+          done.0 ∙ ap (λ b. cond b (tracker_told_row log [] (puts.unblocked_puts rules n at us bs calls (call.UnblockExpired at))) (served_row configs log n at (line log (queue.Tracker n)))) (sym (sym (has_any-is (due_keys key_cmp rules calls at)) ∙ due)),
           done.1,
         )
 
@@ -447,6 +451,7 @@ gone_stands configs log at seed n t s =
       mailbox = same (queue.Tracker n);
       names_left = s.names;
       each = s.messages;
+      given = s.given_back;
       desk = record { messages = refl; questions = refl; updates = refl; sets = refl };
       items = refl;
       answered = subst (λ l. Match (λ x a. IsAnswer x.item a) l t.mailbox.dialer) (sym (same (queue.Dialer n))) s.dialer;

@@ -4,6 +4,7 @@ pub mod Connecting
 pub mod Dialed
 pub mod Ending
 pub mod Finishing
+pub mod GivenBack
 pub mod Handshaking
 pub mod Heeding
 pub mod Naming

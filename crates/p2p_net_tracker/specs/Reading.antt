@@ -11,7 +11,7 @@ use Rattle.p2p_log.specs.declared.entry.Reply.TheVariants as reply
 use Rattle.p2p_log.specs.QueueCode.{same_queue}
 use Rattle.p2p_log_rules.specs.declared.row.Row.{Row}
 use Rattle.p2p_log_rules.specs.Rows.{only}
-use Rattle.p2p_log_rules.specs.TrackerRows.{told_of, taken_row, is_answer}
+use Rattle.p2p_log_rules.specs.TrackerRows.{told_of, taken_row, is_peer_set}
 use Rattle.p2p_net_queues.specs.Board.{held}
 use Rattle.p2p_net_queues.specs.Tables as table
 use Rattle.p2p_net_tracker.specs.declared.question.Question.{Question}
@@ -46,7 +46,7 @@ abbrev pub ReadsAnswerBy : Bool → ℕ → ℕ → Tracker → Tracker → Row 
 ReadsAnswerBy true n e old new r = OnlyAnswers reply.Gone old new r
 ReadsAnswerBy false n e old new r =
     (r ≡ read_first (slice_get (held old.told (queue.Answer n e)) 0))
-    × (Pops (queue.Answer n e) old new × (new ≡ record old { told = new.told; answered = noted (is_answer r.reply) e old.answered }))
+    × (Pops (queue.Answer n e) old new × (new ≡ record old { told = new.told; answered = noted (is_peer_set r.reply) e old.answered }))
 
 abbrev pub ReadsAnswer : ℕ → ℕ → Tracker → Tracker → Row → Type 0
 ReadsAnswer n e old new r = ReadsAnswerBy (is_some (table.at old.answered e)) n e old new r

@@ -32,14 +32,15 @@ use Rattle.p2p_log.specs.declared.event.Act.TheVariants as act
 use Rattle.p2p_log.specs.Lines.{name_of, line}
 use Rattle.p2p_log_rules.specs.Connections.{ends_connection, is_ended}
 use Rattle.p2p_log_rules.specs.Facts.{key_at}
-use Rattle.p2p_log_rules.specs.Handshakes.{handshakes_by, handshakes_of, is_handshaking, source_at}
+use Rattle.p2p_log_rules.specs.Handshakes.{handshakes_of, is_handshaking, source_at}
 use Rattle.p2p_log_rules.specs.Rows.{mailbox_size_at}
 use Rattle.p2p_log_rules.specs.Tracking.{key_cmp, rules_at, asked_by, steps_tracker, calls_of, update_subscriptions, blocked_subscriptions}
-use Rattle.p2p_log_rules.specs.TrackerRows.{most_peers_at, answers, was_answered}
+use Rattle.p2p_log_rules.specs.TrackerRows.{most_peers_at, takes_answer, was_answered}
 use Rattle.p2p_net_queues.specs.Matching.{Match}
 use Rattle.p2p_net_queues.specs.Board.{held}
 use Rattle.p2p_net_queues.specs.Tables as table
 use Rattle.p2p_net_tracker.specs.Asking.{message_of}
+use Rattle.p2p_net_tracker.specs.GivenBack.{IsGivenBack}
 use Rattle.p2p_net_tracker.specs.Heeding.{is_noted}
 use Rattle.p2p_net_tracker.specs.Naming.{dialed_grant, listened_grant}
 use Rattle.p2p_net_tracker.specs.declared.question.Question.{Question}
@@ -86,7 +87,7 @@ Says t e (act.Ask what n) m = (ticket : ℕ) × (m ≡ message_of what ticket) �
 Says t e _ m = ⊥
 
 -- the item names the event that the message is of, or is what a dialer, a listener or a handshake asks, or says that a connection has begun, or
--- gives a reservation of its key back
+-- gives a reservation of its key back, of which side is told by the entry that put it
 abbrev pub IsMessage : Tickets → List Entry → Item → Message Key → Type 0
 IsMessage t log (item.Call e) m = (a : Act) × (asked_by log e ≡ Some a) × Says t e a m
 IsMessage t log (item.Connect conn key) m = m ≡ message.Connect key conn
@@ -171,6 +172,7 @@ pub record TrackerStands (configs : List Config) (log : List Entry) (n : ℕ) (t
   pub size : t.mailbox.desk.messages.capacity ≡ mailbox_size_at configs n
   pub names : t.names ≡ map name_of (line log (queue.Tracker n))
   pub messages : Match (λ x m. IsMessage t.tickets log x.item m) (line log (queue.Tracker n)) t.mailbox.desk.messages.items
+  pub given_back : Match (λ x m. IsGivenBack log x.entry m) (line log (queue.Tracker n)) t.mailbox.desk.messages.items
   -- the next ticket is the next place
   pub questions : length t.mailbox.desk.questions ≡ length t.tickets.questions
   pub updates : length t.mailbox.desk.updates ≡ length t.tickets.updates
@@ -196,9 +198,9 @@ pub record TrackerStands (configs : List Config) (log : List Entry) (n : ℕ) (t
 pub record LeavesTracker (log : List Entry) (e : Entry) (n : ℕ) : Type 0 where
   pub no_step : steps_tracker n e.event.act ≡ false
   pub no_question : asks_of n e.event.act ≡ None
-  pub no_answer : (d : ℕ) → asks_at log n d ≡ Some question.PeerSet → answers d e.event.act e.reply ≡ false
-  pub no_late_answer : (d : ℕ) → length log ≤ d → answers d e.event.act e.reply ≡ false
-  pub no_end : (conn : ℕ) → ends_connection n conn e ≡ false
-  pub handshakes : handshakes_by n log e (handshakes_of log n) ≡ handshakes_of log n
+  pub no_answer : (d : ℕ) → asks_at log n d ≡ Some question.PeerSet → takes_answer d e.event.act e.reply ≡ false
+  pub no_late_answer : (d : ℕ) → length log ≤ d → takes_answer d e.event.act e.reply ≡ false
+  pub no_end : (conn : ℕ) → ends_connection n conn log e ≡ false
+  pub handshakes : handshakes_of (log ++ e ∷ []) n ≡ handshakes_of log n
   pub mailbox : line (log ++ e ∷ []) (queue.Tracker n) ≡ line log (queue.Tracker n)
   pub told : (q : Queue) → is_told n q ≡ true → line (log ++ e ∷ []) q ≡ line log q

@@ -1,7 +1,5 @@
 -- The forms of addresses, and of peers with theirs.
 use Rattle.std.specs.Prelude.{ℕ, not, ◌==◌, ◌-◌, ◌^◌, List, [], ◌∷◌, length, Option, Some, None, if◌then◌else◌}
-use Rattle.std.specs.Ordering.{nat_cmp}
-use Rattle.std.specs.declared.cmp.Ordering.{Ordering}
 use Rattle.serde_json.specs.Data.{Data, Items, no_items, item}
 use Rattle.serde_json.specs.Find.{as_str, as_array}
 use Rattle.p2p_base.specs.Sorted.{sorted_once, has_repeat, by_key}
@@ -13,6 +11,7 @@ use Rattle.p2p_address.specs.declared.peer.Ingress.{Ingress}
 use Rattle.p2p_address.specs.declared.peer.Ingress.TheVariants as ingress
 use Rattle.p2p_address.specs.declared.peer.Address.{Address}
 use Rattle.p2p_address.specs.declared.peer.Address.TheVariants as address
+pub use Rattle.p2p_log.specs.Keys.{key_cmp}
 use Rattle.p2p_sim_script.specs.Tree.{◌>>=◌, ◌>>◌, field, only, within, list_of}
 use Rattle.p2p_sim_script.specs.Parts.{key_of}
 
@@ -88,10 +87,6 @@ abbrev pub pair_of : Data → Option (Key × Address)
 pair_of d = do
   ds ← as_array d
   pair_in ds
-
--- the order of keys
-abbrev pub key_cmp : Key → Key → Ordering
-key_cmp a b = nat_cmp a.0 b.0
 
 -- the pairs in the order of their keys, of which none repeats
 abbrev pub peers_of : Data → Option (List (Key × Address))

@@ -2,11 +2,10 @@ use Rattle.std.proofs.Common.{◌≡◌, ap, sym, subst, ◌∙◌, Some}
 use Rattle.p2p_base.specs.declared.key.Key.{Key}
 use Rattle.p2p_gates.specs.HandshakeTurns.{handshake_turn}
 use Rattle.p2p_gates.specs.declared.arrival.Arrival.{Arrival}
-use Rattle.p2p_log_rules.specs.Links.{unless_dropped}
 use Rattle.p2p_net_queues.specs.Tables as table
 use Rattle.p2p_net_queues.specs.Tables.{AreBut}
 use Rattle.p2p_net_queues.proofs.Tables.{AreBut-kept}
-use Rattle.p2p_net_listener.specs.Handshaking.{served_by, freed_if, unless_ended, StepsHandshake}
+use Rattle.p2p_net_listener.specs.Handshaking.{served_by, freed_if, unless_ended, ends_left, StepsHandshake}
 use Rattle.p2p_net_listener.specs.Listening.{EndsAre}
 use Rattle.p2p_net_listener.proofs.listening.Listening.handshake.Goals as goal
 
@@ -26,6 +25,6 @@ returns c =
           ∙ ap (λ a. served_by turn.stepped a.arrival.link a.has_ended) c.in_ok-stepped.ensures.after)));
       rest = subst (λ a. new ≡ record old { actor = freed_if a.has_ended old.actor; handshakes = new.handshakes; ends = new.ends }) c.in_ok-stepped.ensures.after c.in_ok-keep.ensures.rest;
       others = subst (λ a. AreBut name (unless_ended a) old.handshakes new.handshakes) c.in_ok-stepped.ensures.after kept;
-      ends = subst (λ a. EndsAre (unless_dropped a.has_ended a.arrival.link (table.at old.ends)) new.ends) c.in_ok-stepped.ensures.after c.in_ok-keep.ensures.ends;
+      ends = subst (λ a. EndsAre (ends_left a.has_ended a.arrival.link (table.at old.ends)) new.ends) c.in_ok-stepped.ensures.after c.in_ok-keep.ensures.ends;
       mailbox = c.in_ok-stepped.ensures.way;
     })
