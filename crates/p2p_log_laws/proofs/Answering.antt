@@ -185,7 +185,7 @@ module _ (w : Words) (n name : ℕ) where
     link_silent e side.Out i = silent_away (queue.Link e side.Out) i refl refl
     link_silent e side.In i = silent_away (queue.Link e side.In) i refl refl
 
-    released_silent : (m : ℕ) (key : Key) → Each Silent (released m key)
+    pub released_silent : (m : ℕ) (key : Key) → Each Silent (released m key)
     released_silent m key = (silent_away (queue.Router m) (item.Release key) refl refl, (silent_item (queue.Tracker m) (item.Release key) refl refl, tt))
 
     pub sender_silent : (conn m : ℕ) → Each Silent (send_step_row configs log conn m at).puts

@@ -1,6 +1,6 @@
 -- How many connections of a node that have not ended hold a key after one more entry.
 use Rattle.std.proofs.Common.{◌≡◌, ℕ, ◌+◌, ◌<◌, ◌≤◌, Bool, true, false, cond, List, [], ◌∷◌, ◌++◌, length, Option, Some, None, refl, ap, sym, ◌∙◌, arith, eqb-true}
-use Rattle.std.specs.Prelude.{◌==◌, ◌||◌, nat_le}
+use Rattle.std.specs.Prelude.{◌==◌, ◌&&◌, ◌||◌, nat_le}
 use Rattle.std.proofs.lemmas.Bool.{false≢true}
 use Rattle.std.proofs.lemmas.Bool.Decides.{nat_tests}
 use Rattle.p2p_base.specs.declared.key.Key.{Key}
@@ -15,7 +15,7 @@ use Rattle.p2p_log_rules.proofs.Connections.{EndsNone, ends_untold, is_ended-app
 use Rattle.p2p_log_rules.proofs.Spawning.{connections_of-acted, connections_of-late}
 use Rattle.p2p_log_laws.specs.Grants.{one}
 use Rattle.p2p_log_laws.specs.NodeGrants.{count_below, is_connection_of}
-use Rattle.p2p_log_laws.proofs.CountBelow.{begun_test, count_kept, count_begun, count_changed}
+use Rattle.p2p_log_laws.proofs.CountBelow.{begun_test, count_kept, count_begun, count_less}
 use Rattle.p2p_log_laws.proofs.StandingAttempts.{longer}
 
 -- what has not ended was made by an earlier entry
@@ -76,28 +76,21 @@ module _ (n : ℕ) (key : Key) (log : List Entry) (e : Entry) where
       count_kept (length log) (length (log ++ e ∷ [])) (longer log e) p q none
       (λ k. ap (is_connection_of key) (live_connection-kept log e n k (lives k) (connections_of-acted log e n false other k)))
 
-  -- one ends, which has not ended
-  pub connections_ended : steps_spawner n e.event.act ≡ false → (conn : ℕ) → conn < length log → ((k : ℕ) → ends_connection n k log e ≡ (conn == k))
-      → held_by_connections n key (log ++ e ∷ []) + one (p conn) ≡ held_by_connections n key log
-  connections_ended other conn early ends =
-      count_changed (length log) (length (log ++ e ∷ [])) (longer log e) p q none conn false early (λ k. after k) ∙ plus_none (held_by_connections n key log)
+  -- those that end and hold it hold it no more, however many they are
+  pub connections_over : steps_spawner n e.event.act ≡ false → held_by_connections n key (log ++ e ∷ []) + count_below (length log) (λ k. ends_connection n k log e && p k) ≡ held_by_connections n key log
+  connections_over other = count_less (length log) (length (log ++ e ∷ [])) (longer log e) p q none (λ k. ends_connection n k log e) after
     where
-      plus_none : (k : ℕ) → k + 0 ≡ k
-      plus_none k = omega arith
-
-      either_way : (a b : ℕ) → (a == b) ≡ (b == a)
-      either_way a b = grind (arith, nat_tests)
-
       by : (was now : Bool) (o : Option Spawned) → is_connection_of key (cond (was || now) None o) ≡ cond now false (is_connection_of key (cond was None o))
       by true true o = refl
       by true false o = refl
       by false true o = refl
       by false false o = refl
 
-      after : (k : ℕ) → q k ≡ cond (k == conn) false (p k)
+      after : (k : ℕ) → q k ≡ cond (ends_connection n k log e) false (p k)
       after k =
-          ap (λ b. is_connection_of key (cond b None (connections_of (log ++ e ∷ []) n k))) (is_ended-append log e n k ∙ ap (λ b. is_ended log n k || b) (ends k ∙ either_way conn k))
-          ∙ (ap (λ o. is_connection_of key (cond (is_ended log n k || (k == conn)) None o)) (connections_of-acted log e n false other k) ∙ by (is_ended log n k) (k == conn) (f k))
+          ap (λ b. is_connection_of key (cond b None (connections_of (log ++ e ∷ []) n k))) (is_ended-append log e n k)
+          ∙ (ap (λ o. is_connection_of key (cond (is_ended log n k || ends_connection n k log e) None o)) (connections_of-acted log e n false other k)
+          ∙ by (is_ended log n k) (ends_connection n k log e) (f k))
 
   -- one may be made, by what was taken
   pub connections_made : steps_spawner n e.event.act ≡ true → is_ended log n (length log) ≡ false

@@ -1,6 +1,6 @@
 -- How many numbers below one pass a test, and what that comes to for a test that is another at one place, or at none.
 use Rattle.std.proofs.Common.{◌≡◌, ℕ, zero, suc, ◌+◌, ◌<◌, ◌≤◌, Bool, true, false, cond, Option, Some, None, refl, ap, sym, ◌∙◌, arith, eqb-true}
-use Rattle.std.specs.Prelude.{◌==◌}
+use Rattle.std.specs.Prelude.{◌==◌, ◌&&◌, ◌||◌}
 use Rattle.std.proofs.lemmas.Bool.Decides.{nat_tests}
 use Rattle.p2p_log_rules.specs.Facts.{with_begun}
 use Rattle.p2p_log_laws.specs.Grants.{one}
@@ -46,6 +46,20 @@ module _ (p q : ℕ → Bool) where
             let others = rest (below_it m e lt other) in
             omega (arith, new, others)
 
+-- of the numbers that pass one test those that pass another too, and those that do not
+module _ (p q s : ℕ → Bool) (h : (k : ℕ) → q k ≡ cond (s k) false (p k)) where
+  pub count_below-parts : (m : ℕ) → count_below m q + count_below m (λ k. s k && p k) ≡ count_below m p
+  unfolding count_below
+  count_below-parts zero = refl
+  count_below-parts (suc m) =
+      let here : one (q m) + one (s m && p m) ≡ one (p m) = ap (λ b. one b + one (s m && p m)) (h m) ∙ by (s m) (p m) (one (p m)) refl in
+      let rest = count_below-parts m in
+      omega (arith, here, rest)
+    where
+      by : (b c : Bool) (k : ℕ) → one c ≡ k → one (cond b false c) + one (b && c) ≡ k
+      by true c k is = omega (arith, is)
+      by false c k is = omega (arith, is)
+
 -- what is counted of numbers that pass
 module _ (p : ℕ → Bool) where
   below_last : (m i : ℕ) → i < suc m → (i == m) ≡ false → i < m
@@ -80,6 +94,28 @@ module _ (p : ℕ → Bool) where
           let more = count_below-one m i (below_last m i lt other) is in
           omega (arith, last, more)
       go false false other also rest = let more = rest (below_last m i lt other) (below_last m j less also) two is it in omega (arith, more)
+
+pub none_below : (m : ℕ) → count_below m (λ k. false) ≡ 0
+unfolding count_below
+none_below zero = refl
+none_below (suc m) = let rest = none_below m in omega (arith, rest)
+
+-- of those that pass a test, one more is counted
+pub count_below-more : (p s : ℕ → Bool) (e m : ℕ) → e < m → s e ≡ false → count_below m (λ k. ((e == k) || s k) && p k) ≡ one (p e) + count_below m (λ k. s k && p k)
+count_below-more p s e m lt other =
+    let there = count_below-there (λ k. s k && p k) (λ k. ((e == k) || s k) && p k) e (p e) here m lt in
+    let nothing : one (s e && p e) ≡ 0 = ap (λ b. one (b && p e)) other in
+    omega (arith, there, nothing)
+  where
+    either_way : (a b : ℕ) → (a == b) ≡ (b == a)
+    either_way a b = grind (arith, nat_tests)
+
+    here : (k : ℕ) → (((e == k) || s k) && p k) ≡ cond (k == e) (p e) (s k && p k)
+    here k = ap (λ b. (b || s k) && p k) (either_way e k) ∙ by (k == e) refl
+      where
+        by : (b : Bool) → (k == e) ≡ b → ((b || s k) && p k) ≡ cond b (p e) (s k && p k)
+        by true is = ap p (eqb-true k e is)
+        by false is = refl
 
 -- one number more is counted, which passed no test before
 module _ (m more : ℕ) (next : more ≡ suc m) (p q : ℕ → Bool) (none : p m ≡ false) where
@@ -116,6 +152,18 @@ module _ (m more : ℕ) (next : more ≡ suc m) (p q : ℕ → Bool) (none : p m
     where
       differ_from : (k i : ℕ) → i < k → (k == i) ≡ false
       differ_from k i lt = grind (arith, nat_tests)
+
+  -- some that passed it do no more
+  pub count_less : (s : ℕ → Bool) → ((k : ℕ) → q k ≡ cond (s k) false (p k)) → count_below more q + count_below m (λ k. s k && p k) ≡ count_below m p
+  count_less s h =
+      let at : one (q m) ≡ 0 = ap one (h m ∙ (ap (cond (s m) false) none ∙ nothing (s m))) in
+      let all = next_counted in
+      let parts = count_below-parts p q s h m in
+      omega (arith, at, all, parts)
+    where
+      nothing : (b : Bool) → cond b false false ≡ false
+      nothing true = refl
+      nothing false = refl
 
 -- a test of what may stand under a name, once something else does
 module _ {X : Type 0} (holds : Option X → Bool) where

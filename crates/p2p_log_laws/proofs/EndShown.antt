@@ -26,14 +26,14 @@ use Rattle.p2p_log.proofs.Sending.{get_longer}
 use Rattle.p2p_log.proofs.Taken.{Each-taken}
 use Rattle.p2p_log_rules.specs.declared.row.Half.{Half}
 use Rattle.p2p_log_rules.specs.declared.row.Row.{Row}
-use Rattle.p2p_log_rules.specs.Connections.{ends_connection, half_at, is_ended}
+use Rattle.p2p_log_rules.specs.Connections.{ends_connection, half_at, live_half, is_ended}
 use Rattle.p2p_log_rules.specs.Effect
 use Rattle.p2p_log_rules.specs.Effect.{effect, row}
 use Rattle.p2p_log_rules.specs.Facts.{is_up}
 use Rattle.p2p_log_rules.specs.Lawful.{IsLawful}
 use Rattle.p2p_log_rules.specs.Rows.{only}
 use Rattle.p2p_log_rules.specs.Tracking.{asked_by}
-use Rattle.p2p_log_rules.proofs.Connections.{half_act, end_of, is_ended-append, half_parts, is_live}
+use Rattle.p2p_log_rules.proofs.Connections.{half_act, IsEndOf, end_of, is_ended-append, half_parts, is_live}
 use Rattle.p2p_log_rules.proofs.Moves.{taken_stood}
 use Rattle.p2p_log_rules.proofs.Touches.{is_told_to}
 use Rattle.p2p_log_laws.specs.Endings.{HasReason, ShowsEnd, EachEndShows, EachEndsOne, EachIsEndedOnce, ReleasesAreTimely}
@@ -41,6 +41,7 @@ use Rattle.p2p_log_laws.specs.Leaving.{IsTakenFrom}
 use Rattle.p2p_log_laws.specs.Order.{is_before}
 use Rattle.p2p_log_laws.proofs.EndMade.{in_list, take_short, holds_on}
 use Rattle.p2p_log_laws.proofs.EndOlder.{connection_before, older_ended}
+use Rattle.p2p_log_laws.proofs.Ending.{ending}
 use Rattle.p2p_log_laws.proofs.Leaving.{leave_in_order}
 use Rattle.p2p_log_laws.proofs.Ledger.{Told-each}
 use Rattle.p2p_log_laws.proofs.Living.{IsEndRow, end_row_is}
@@ -52,6 +53,13 @@ use Rattle.p2p_log_laws.proofs.Shapes.{row_shape}
 use Rattle.p2p_log_laws.proofs.Sublists.{before_later}
 
 module _ (configs : List Config) (script : List Event) (log : List Entry) (lawful : IsLawful configs script log) where
+  -- it had a half that had not ended
+  lived_half : (i n conn : ℕ) (e : Entry) → slice_get log i ≡ Some e → ends_connection n conn (take i log) e ≡ true → (half : Half) × (live_half (take i log) n conn ≡ Some half)
+  lived_half i n conn e at ends =
+      let due = entry_due configs script log lawful i e at in
+      let end = ending configs (take i log) due.0 n conn (subst (λ (d : Entry). ends_connection n conn (take i log) d ≡ true) due.1 ends) in
+      (end.half, end.lived)
+
   -- ---- why
 
   shows : (before : List Entry) (ev : Event) (n conn : ℕ) → IsEndRow configs before n conn (row configs before ev.at ev.seed ev.act)
@@ -68,18 +76,15 @@ module _ (configs : List Config) (script : List Event) (log : List Entry) (lawfu
     },
   )
 
-  pub end_is : (i n conn : ℕ) (e : Entry) → slice_get log i ≡ Some e → ends_connection n conn (take i log) e ≡ true → (ev : Event) × (e ≡ effect configs (take i log) ev) × IsEndRow configs (take i log) n conn (row configs (take i log) ev.at ev.seed ev.act)
-  end_is i n conn e at ends =
-      let due = entry_due configs script log lawful i e at in (
-        due.0,
-        due.1,
-        end_row_is configs (take i log) due.0 n conn (Told-each configs script log lawful i).standing.fitting (subst (λ (d : Entry). ends_connection n conn (take i log) d ≡ true) due.1 ends),
-      )
+  half_shows : (i n conn : ℕ) (e : Entry) → slice_get log i ≡ Some e → IsEndOf e n conn → (why : Ended) × (e.reply ≡ reply.Ended why) × ShowsEnd configs (take i log) e n conn why
+  half_shows i n conn e at end =
+      let due = entry_due configs script log lawful i e at in
+      subst (λ (d : Entry). (why : Ended) × (d.reply ≡ reply.Ended why) × ShowsEnd configs (take i log) d n conn why) (sym due.1)
+      (shows (take i log) due.0 n conn
+      (end_row_is configs (take i log) due.0 n conn (Told-each configs script log lawful i).standing.fitting (subst (λ (d : Entry). IsEndOf d n conn) due.1 end)))
 
   pub each_end_shows : EachEndShows configs log
-  each_end_shows i n conn e at ends =
-      let h = end_is i n conn e at ends in
-      subst (λ (d : Entry). (why : Ended) × (d.reply ≡ reply.Ended why) × ShowsEnd configs (take i log) d n conn why) (sym h.1) (shows (take i log) h.0 n conn h.2)
+  each_end_shows i n conn e at ends = half_shows i n conn e at (end_of (take i log) e n conn ends)
 
   -- ---- one, and once
 
@@ -104,7 +109,7 @@ module _ (configs : List Config) (script : List Event) (log : List Entry) (lawfu
   ended_by n conn i e at ends = ap (λ l. is_ended l n conn) (take_next log i e at) ∙ (is_ended-append (take i log) e n conn ∙ (ap (λ b. is_ended (take i log) n conn || b) ends ∙ or_true (is_ended (take i log) n conn)))
 
   lived : (n conn i : ℕ) (e : Entry) → slice_get log i ≡ Some e → ends_connection n conn (take i log) e ≡ true → is_ended (take i log) n conn ≡ false
-  lived n conn i e at ends = let h = (end_is i n conn e at ends).2 in (is_live (take i log) n conn h.half h.lived).lives
+  lived n conn i e at ends = let live = lived_half i n conn e at ends in (is_live (take i log) n conn live.0 live.1).lives
 
   not_again : (n conn i j : ℕ) (e f : Entry) → slice_get log i ≡ Some e → slice_get log j ≡ Some f → ends_connection n conn (take i log) e ≡ true → ends_connection n conn (take j log) f ≡ true → i < j → ⊥
   not_again n conn i j e f at also first second less = false≢true (sym (lived n conn j f also second) ∙ ended_on n conn (suc i) j less (ended_by n conn i e at first))

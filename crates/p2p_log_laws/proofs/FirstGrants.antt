@@ -30,7 +30,7 @@ use Rattle.p2p_log_laws.proofs.Fitting.{StandsFit, fits}
 use Rattle.p2p_log_laws.proofs.HandshakeGrants.{GrantsFirst}
 use Rattle.p2p_log_laws.proofs.HandshakeLaws.{AreHandshakes, handshakes_first, handshakes_more}
 use Rattle.p2p_log_laws.proofs.LineShape.{in_line}
-use Rattle.p2p_log_laws.proofs.Living.{end_row_is}
+use Rattle.p2p_log_laws.proofs.Ending.{ending}
 use Rattle.p2p_log_laws.proofs.OneAsked.{splits, left}
 use Rattle.p2p_log_laws.proofs.Plain.{StandsPlain}
 use Rattle.p2p_log_laws.proofs.Shape.{Shape}
@@ -107,13 +107,13 @@ module _ (configs : List Config) (n : ℕ) where
   stand_first = record { fitting = subst (Each StandsFit) (sym live-none) tt; handshakes = handshakes_first configs n; unended = λ k past. is_ended-none n k }
 
   -- what ends was made
-  ends_early : (log : List Entry) (ev : Event) → Each StandsFit (live log) → (k : ℕ) → length log ≤ k → ends_connection n k log (effect configs log ev) ≡ false
-  ends_early log ev fitting k past = by (ends_connection n k log (effect configs log ev)) refl
+  ends_early : (log : List Entry) (ev : Event) (k : ℕ) → length log ≤ k → ends_connection n k log (effect configs log ev) ≡ false
+  ends_early log ev k past = by (ends_connection n k log (effect configs log ev)) refl
     where
       by : (b : Bool) → ends_connection n k log (effect configs log ev) ≡ b → b ≡ false
       by false is = refl
       by true is =
-          let over = end_row_is configs log ev n k fitting is in
+          let over = ending configs log ev n k is in
           let parts = half_parts log n k over.half (is_live log n k over.half over.lived).at in
           let none : connections_of log n k ≡ None = connections_of-late log n k past in
           let clash : ◌≡◌ {A = Option Spawned} None (Some parts.connection) = sym none ∙ parts.made in
@@ -130,7 +130,7 @@ module _ (configs : List Config) (n : ℕ) where
         unended = λ k past.
             let longer : length (log ++ entry_of ev r ∷ []) ≡ length log + 1 = length-append log (entry_of ev r ∷ []) in
             let early : length log ≤ k = omega (arith, past, longer) in
-            is_ended-append log (entry_of ev r) n k ∙ (ap (λ b. b || ends_connection n k log (entry_of ev r)) (stand.unended k early) ∙ ends_early log ev stand.fitting k early);
+            is_ended-append log (entry_of ev r) n k ∙ (ap (λ b. b || ends_connection n k log (entry_of ev r)) (stand.unended k early) ∙ ends_early log ev k early);
       }
 
   pub first_grants : (key : Key) (log : List Entry) → Stand configs n log → (h : ℕ) → GrantsFirst n key log h

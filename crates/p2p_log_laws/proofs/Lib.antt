@@ -42,6 +42,7 @@ pub mod EndOrder
 pub mod EndOver
 pub mod EndShown
 pub mod EndWays
+pub mod Ending
 pub mod EndShape
 pub mod EndsOnce
 pub mod Entries

@@ -32,10 +32,11 @@ use Rattle.p2p_log_rules.specs.Lawful.{IsLawful}
 use Rattle.p2p_log_rules.specs.Metering.{pings, messages, may_pass}
 use Rattle.p2p_log_rules.specs.Pings.{ping_is_due}
 use Rattle.p2p_log_rules.specs.Spawning.{Spawned, connections_of}
-use Rattle.p2p_log_rules.proofs.Connections.{half_act, end_of, begin_of, runs_is, is_begun-append, is_begun-none, has_run-append, has_run-none, is_ended-append, is_ended-none, half_parts, is_live}
+use Rattle.p2p_log_rules.proofs.Connections.{half_act, IsEndOf, begin_of, runs_is, is_begun-append, is_begun-none, has_run-append, has_run-none, is_ended-append, is_ended-none, half_parts, is_live}
 use Rattle.p2p_log_rules.proofs.Moves.{one_taken, first_has}
 use Rattle.p2p_log_rules.proofs.Spawning.{connections_of-late, connections_of-next}
 use Rattle.p2p_log_laws.specs.Endings.{IsNoFrame, IsOnNoChannel, HasReason}
+use Rattle.p2p_log_laws.proofs.Ending.{ending}
 use Rattle.p2p_log_laws.proofs.Fitting.{fits, StandsFit}
 use Rattle.p2p_log_laws.proofs.Prefixes.{at_end}
 
@@ -226,10 +227,10 @@ module _ (configs : List Config) (log : List Entry) (n conn at : ℕ) (fitting :
 abbrev EndsBy : List Config → List Entry → ℕ → ℕ → ℕ → ℕ → Act → Type 0
 EndsBy configs log at seed n conn a = is_end (row configs log at seed a).reply ≡ true → IsEndRow configs log n conn (row configs log at seed a)
 
-pub end_row_is : (configs : List Config) (log : List Entry) (ev : Event) (n conn : ℕ) → Each StandsFit (live log) → ends_connection n conn log (effect configs log ev) ≡ true
+pub end_row_is : (configs : List Config) (log : List Entry) (ev : Event) (n conn : ℕ) → Each StandsFit (live log) → IsEndOf (effect configs log ev) n conn
     → IsEndRow configs log n conn (row configs log ev.at ev.seed ev.act)
 unfolding effect row
-end_row_is configs log ev n conn fitting ends = let end = end_of log (effect configs log ev) n conn ends in by end.sends end.acts end.says
+end_row_is configs log ev n conn fitting end = by end.sends end.acts end.says
   where
     by : (sends : Bool) → ev.act ≡ half_act sends conn n → EndsBy configs log ev.at ev.seed n conn ev.act
     by true acts = subst (EndsBy configs log ev.at ev.seed n conn) (sym acts) (send_ends configs log n conn ev.at fitting)
@@ -286,8 +287,10 @@ module _ (configs : List Config) (log : List Entry) (ev : Event) (n conn : ℕ) 
   next_made false new was now h = still_made (now h)
 
   ends_made : ends_connection n conn log (effect configs log ev) ≡ true → IsMade log n conn
-  unfolding effect
-  ends_made h = let end = end_of log (effect configs log ev) n conn h in steps_made end.sends end.acts (λ gone. false≢true (ap (λ (k : Row). is_end k.reply) (sym gone) ∙ end.says))
+  ends_made h =
+      let end = ending configs log ev n conn h in
+      let parts = half_parts log n conn end.half (is_live log n conn end.half end.lived).at in
+      (parts.connection, parts.made)
 
   begins_made : begins n conn log (effect configs log ev) ≡ true → IsMade log n conn
   unfolding effect

@@ -3,7 +3,6 @@ use Rattle.std.proofs.Common.{◌≡◌, ℕ, Bool, true, false, cond, List, [],
 use Rattle.std.specs.Prelude.{◌==◌, ◌&&◌, ◌||◌, flat_map, nat_lt}
 use Rattle.std.specs.List.{AllByRecursion as Each, list_any}
 use Rattle.std.specs.Option.{option_map}
-use Rattle.p2p_log_rules.proofs.Bools.{or_false}
 use Rattle.p2p_base.specs.declared.key.Key.{Key}
 use Rattle.p2p_tracker_calls.specs.declared.call.Call.{Call}
 use Rattle.p2p_tracker_calls.specs.Grants.{is_held}
@@ -26,7 +25,7 @@ use Rattle.p2p_log.specs.Lines.{ended_item, live, line}
 use Rattle.p2p_log.proofs.Each.{Each-weaker}
 use Rattle.p2p_log_rules.specs.declared.row.Row.{Row}
 use Rattle.p2p_log_rules.specs.Attempting.{Attempt, DialRules, dial_rules_at, attempts_of, attempt_turn, attempt_by, attempt_row, resolve_row, refuse_row, connect_row}
-use Rattle.p2p_log_rules.proofs.Connections.{EndsNone, ends_untold}
+use Rattle.p2p_log_rules.proofs.Connections.{EndsNone, ends_half, ends_untold}
 use Rattle.p2p_log_rules.specs.Tellings.{Telling, last_or}
 use Rattle.p2p_log_rules.specs.Told.{asks_list, took_tells, told}
 use Rattle.p2p_log_rules.proofs.Attempts.{attempt_told, attempts_by, attempts_of-append}
@@ -132,7 +131,7 @@ module _ (configs : List Config) (n : ℕ) (key : Key) (log : List Entry) where
         let r : Row = send_step_row configs log conn m at in
         let shape : Shape configs log a r = send_step_shape configs log conn m at in
         weighs.step_weighs configs n key log at seed a m conn r shape (record { dialer = refl; handshakes = λ h. refl; spawner = refl; tracker = refl })
-        (half_aside a m conn r shape (λ q h. h)) refl refl (λ k. or_false ((m == n) && (conn == k)))
+        (half_aside a m conn r shape (λ q h. h)) refl refl (λ k. ends_half log (entry_of (event at seed a) r) n k true conn m refl)
         (send_is configs log conn m at (Plain n key) (λ k. plain_item n key (queue.Tracker m) (item.Connect conn k) refl refl)
         (λ k. plain_aside n key (queue.Router m) (item.Ready conn k) (refl, refl)) link_plain) (untried a r refl)
       where
@@ -145,7 +144,7 @@ module _ (configs : List Config) (n : ℕ) (key : Key) (log : List Entry) where
         let a : Act = act.RecvStep conn m in
         let r : Row = recv_step_row configs log conn m at in
         let shape : Shape configs log a r = recv_step_shape configs log conn m at in
-        weighs.step_weighs configs n key log at seed a m conn r shape read_away (half_aside a m conn r shape (λ q h. h)) refl refl (λ k. refl)
+        weighs.step_weighs configs n key log at seed a m conn r shape read_away (half_aside a m conn r shape (λ q h. h)) refl refl (λ k. ends_half log (entry_of (event at seed a) r) n k false conn m refl)
         (receive_is configs log conn m at (Plain n key) (λ i. plain_aside n key (queue.Held m conn) i (refl, refl)) (λ c i. plain_aside n key (queue.Channel m c) i (refl, refl))) (untried a r refl)
       where
         read_away : Away n (reads configs log (act.RecvStep conn m))

@@ -1,7 +1,7 @@
 -- While word that a connection begins waits for its node's tracker, the key of the connection is held, and no connection with it was accepted
 -- since it was granted.
 use Rattle.std.proofs.Common.{◌≡◌, ℕ, zero, suc, ◌+◌, ◌<◌, ◌≤◌, Bool, true, false, cond, List, [], ◌∷◌, ◌++◌, length, Option, Some, None, ◌⊎◌, inl, inr, refl, ap, sym, subst, ◌∙◌, arith}
-use Rattle.std.specs.Prelude.{◌||◌, not, filter, slice_get}
+use Rattle.std.specs.Prelude.{◌==◌, ◌&&◌, ◌||◌, not, filter, slice_get}
 use Rattle.std.specs.List.{AllByRecursion as Each, list_any}
 use Rattle.std.proofs.lemmas.Bool.{false≢true}
 use Rattle.std.proofs.lemmas.Option.{same_Some}
@@ -26,7 +26,7 @@ use Rattle.p2p_log_rules.specs.Effect.{effect, begin_row, row, send_step_row}
 use Rattle.p2p_log_rules.specs.Lawful.{IsLawful}
 use Rattle.p2p_log_rules.specs.Spawning.{Spawned, connections_of}
 use Rattle.p2p_log_rules.specs.Tracking.{steps_tracker}
-use Rattle.p2p_log_rules.proofs.Connections.{ends_none-reply, is_begun-append, is_ended-kept, is_live}
+use Rattle.p2p_log_rules.proofs.Connections.{ends_half, is_begun-append, is_ended-kept, is_live}
 use Rattle.p2p_log_rules.proofs.Moves.{one_taken}
 use Rattle.p2p_log_rules.proofs.Spawning.{connections_of-longer}
 use Rattle.p2p_log_laws.specs.Grants.{one, Granting, is_held, is_stopped}
@@ -188,7 +188,7 @@ module _ (configs : List Config) (n : ℕ) (script : List Event) (before : List 
     | inr new ↦
         let b : Begins x conn key = begins x conn key w new in
         let parts = open_parts before n conn b.live.made b.live.lives in
-        inl (is_ended-kept before e n conn (ends_none-reply before e n conn (ap (λ (k : Row). is_end k.reply) b.row_is)) ∙ parts.lives)
+        inl (is_ended-kept before e n conn (ends_half before e n conn true conn n b.acts ∙ (ap (λ (k : Row). ((n == n) && (conn == conn)) && is_end k.reply) b.row_is ∙ and_false ((n == n) && (conn == conn)))) ∙ parts.lives)
   ]
 
   behind : (x y : Envelope) (conn : ℕ) (key : Key) → IsWord configs n log x conn key → Has (live log) y → puts_release n key (put_of y) ≡ true → x.entry < y.entry

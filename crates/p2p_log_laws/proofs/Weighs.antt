@@ -4,8 +4,8 @@ use Rattle.std.specs.Prelude.{◌==◌, ◌&&◌, ◌||◌, count_by}
 use Rattle.std.specs.List.{AllByRecursion as Each, list_any}
 use Rattle.std.proofs.lemmas.Bool.{false≢true}
 use Rattle.std.proofs.lemmas.Bool.Decides.{nat_tests}
-use Rattle.std.proofs.lemmas.List.Sums.{sum_by-cons}
-use Rattle.p2p_log_rules.proofs.Bools.{and_true}
+use Rattle.std.proofs.lemmas.List.Sums.{sum_by-append, sum_by-cons}
+use Rattle.p2p_log_rules.proofs.Bools.{and_false}
 use Rattle.p2p_base.specs.declared.key.Key.{Key}
 use Rattle.p2p_tracker_calls.specs.declared.call.Call.{Call}
 use Rattle.p2p_tracker_calls.specs.Blocks.{is_local}
@@ -22,15 +22,16 @@ use Rattle.p2p_log.specs.declared.event.Act.{Act}
 use Rattle.p2p_log.specs.declared.event.Event.{Event}
 use Rattle.p2p_log.proofs.Each.{Each-weaker, count_by-none}
 use Rattle.p2p_log.proofs.Queues.{same_queue-refl}
+use Rattle.p2p_log_rules.specs.declared.row.Half.{Half}
 use Rattle.p2p_log_rules.specs.declared.row.Row.{Row}
 use Rattle.p2p_log_rules.specs.Attempting.{Attempt, dial_rules_at, attempts_of}
 use Rattle.p2p_log_rules.specs.Told.{act_tells, tells, told}
 use Rattle.p2p_log_rules.proofs.Attempts.{attempt_told, attempts_by}
-use Rattle.p2p_log_rules.specs.Connections.{is_end, ends_connection, is_ended, live_connection}
+use Rattle.p2p_log_rules.specs.Connections.{is_end, is_over, ends_connection, is_ended, live_connection, live_half}
 use Rattle.p2p_log_rules.specs.Dropping.{LinkEnd, other_side, dropping}
 use Rattle.p2p_log_rules.specs.Effect.{entry_of}
 use Rattle.p2p_log_rules.proofs.Attempts.{attempts_of-append}
-use Rattle.p2p_log_rules.proofs.Connections.{steps_sender, steps_receiver, EndsNone, ends_is, ends_untold, ends_none-reply, is_ended-append}
+use Rattle.p2p_log_rules.proofs.Connections.{EndsNone, ends_untold, is_ended-append}
 use Rattle.p2p_log_rules.proofs.Spawning.{connections_of-acted}
 use Rattle.p2p_log_rules.specs.Facts.{taken, with_begun}
 use Rattle.p2p_log_rules.specs.Moves.{Moves}
@@ -41,16 +42,45 @@ use Rattle.p2p_log_laws.proofs.Reaching.{reads, writes}
 use Rattle.p2p_log_laws.specs.Grants.{one, Granting, turn_by, held_after}
 use Rattle.p2p_log_laws.specs.NodeGrants.{count_below, releases_key, is_attempt_of, is_connection_of, beginners_of, puts_grant, puts_release, granting}
 use Rattle.p2p_log_laws.proofs.AttemptHolds.{held_by_attempts, holds_kept}
-use Rattle.p2p_log_laws.proofs.ConnectionHolds.{held_by_connections, live_early, live_holds, connections_kept, connections_ended}
-use Rattle.p2p_log_laws.proofs.CountBelow.{count_below-same}
+use Rattle.p2p_log_laws.proofs.ConnectionHolds.{held_by_connections, live_early, live_holds, connections_kept, connections_over}
+use Rattle.p2p_log_laws.proofs.CountBelow.{none_below, count_below-same, count_below-more}
+use Rattle.p2p_log_laws.proofs.EndShape.{is_named, all_released, AreNamedApart, each_released}
 use Rattle.p2p_log_laws.proofs.Plain.{IsAside, Away, Plain, StandsPlain, IsPlain, away_aside, plain_aside, stand_aside, no_grants, no_releases, no_grants_stand, no_releases_stand, plain_out_of_reach}
 use Rattle.p2p_log_laws.proofs.Shape.{Shape}
 use Rattle.p2p_log_laws.proofs.Dropped.{taken_same, ended_more, flying_none, taken-dropping}
-use Rattle.p2p_log_laws.proofs.HalfSteps.{released, IsLast, IsStep}
+use Rattle.p2p_log_laws.proofs.HalfSteps.{released, IsStep}
 use Rattle.p2p_log_laws.proofs.Weighing.{weight, count_by-one}
 
 pub other_way : (m n : ℕ) → (m == n) ≡ false → (n == m) ≡ false
 other_way m n h = grind (arith, nat_tests)
+
+module _ (n : ℕ) (key : Key) where
+  -- the releases of one release its peer
+  one_released : (k : Key) → count_by (puts_release n key) (released n k) ≡ one (k.0 == key.0)
+  one_released k =
+      sum_by-cons (λ x. cond (puts_release n key x) 1 0) (queue.Router n, item.Release k) ((queue.Tracker n, item.Release k) ∷ [])
+      ∙ (zero_more (count_by (puts_release n key) ((queue.Tracker n, item.Release k) ∷ []))
+      ∙ (count_by-one (puts_release n key) (queue.Tracker n, item.Release k) ∙ ap one (ap (λ b. b && (k.0 == key.0)) (same_queue-refl (queue.Tracker n)))))
+    where
+      zero_more : (c : ℕ) → 0 + c ≡ c
+      zero_more c = omega arith
+
+  module _ (log : List Entry) where
+    abbrev holds_key : ℕ → Bool
+    holds_key k = is_connection_of key (live_connection log n k)
+
+    -- those of several release the key as often as one of them holds it
+    released_counted : (cs : List (ℕ × Half)) → AreNamedApart cs → Each (λ c. live_half log n c.0 ≡ Some c.1) cs
+        → count_by (puts_release n key) (all_released n cs) ≡ count_below (length log) (λ k. list_any (is_named k) cs && holds_key k)
+    released_counted [] apart lived = sym (none_below (length log))
+    released_counted (c ∷ cs) apart lived =
+        let all : count_by (puts_release n key) (all_released n (c ∷ cs)) ≡ count_by (puts_release n key) (released n c.1.peer) + count_by (puts_release n key) (all_released n cs) =
+        sum_by-append (λ x. cond (puts_release n key x) 1 0) (released n c.1.peer) (all_released n cs)
+        in
+        let here : count_by (puts_release n key) (released n c.1.peer) ≡ one (holds_key c.0) = one_released c.1.peer ∙ ap one (sym (live_holds n key log c.0 c.1 lived.0)) in
+        let rest = released_counted cs apart.1 lived.1 in
+        let more = count_below-more holds_key (λ k. list_any (is_named k) cs) c.0 (length log) (live_early log n c.0 c.1 lived.0) apart.0 in
+        omega (arith, all, here, rest, more)
 
 module _ (configs : List Config) (n : ℕ) (key : Key) (log : List Entry) where
   abbrev g : Granting
@@ -128,6 +158,17 @@ module _ (configs : List Config) (n : ℕ) (key : Key) (log : List Entry) where
         let released = no_releases n key r.puts plain.puts in
         moved makes lives m (omega (arith, held, taken, ended, granted, released)) (no_releases_stand n key m.taken plain.taken) (no_releases_stand n key m.ended plain.ended)
 
+    -- one that makes no connection, moves none of them but by releases, and puts as many of these as connections with the key end
+    pub over_weighs : steps_spawner n ev.act ≡ false → (m : Moves log r) → Each (StandsPlain n key) m.taken → Each (StandsPlain n key) m.ended → count_by (puts_grant n key) r.puts ≡ 0
+        → count_by (puts_release n key) r.puts ≡ count_below (length log) (λ k. ends_connection n k log e && is_connection_of key (live_connection log n k))
+        → ((k : ℕ) → is_attempt_of key (attempts_by configs n log e f k) ≡ is_attempt_of key (f k)) → Weighs ev r
+    over_weighs makes m taken_plain ended_plain granted released kept =
+        let held = holds_kept configs n key log e kept in
+        let over = connections_over n key log e makes in
+        let taken = no_grants_stand n key m.taken taken_plain in
+        let ended = no_grants_stand n key m.ended ended_plain in
+        passed m (omega (arith, held, over, taken, ended, granted, released)) (no_releases_stand n key m.taken taken_plain) (no_releases_stand n key m.ended ended_plain)
+
   abbrev pub event : ℕ → ℕ → Act → Event
   event at seed a = record { at = at; seed = seed; act = a }
 
@@ -140,68 +181,62 @@ module _ (configs : List Config) (n : ℕ) (key : Key) (log : List Entry) where
 
     -- ---- a step of a half
 
-    -- it ends a connection of this node, whose grant its release gives back
-    last_weighs : (a : Act) (conn : ℕ) (r : Row) (shape : Shape configs log a r) → Away n (reads configs log a) → Each (StandsPlain n key) shape.moves.ended → steps_tracker n a ≡ false → steps_spawner n a ≡ false
-        → ((k : ℕ) → (steps_sender n k a || steps_receiver n k a) ≡ (conn == k)) → IsLast log n conn r
-        → ((k : ℕ) → is_attempt_of key (attempts_by configs n log (entry_of (event at seed a) r) f k) ≡ is_attempt_of key (f k)) → Weighs (event at seed a) r
-    last_weighs a conn r shape read aside still makes steps last kept =
-        let m : Moves log r = shape.moves in
-        let e : Entry = entry_of (event at seed a) r in
-        let peer : Key = last.half.peer in
-        let taken_plain : Each (StandsPlain n key) m.taken =
-        stand_aside n key m.taken (Each-weaker (λ x. reads configs log a x.queue ≡ true) (λ x. IsAside n x.queue) (λ x h. away_aside n (reads configs log a) read x.queue h) m.taken shape.reach.taken)
-        in
-        let held = holds_kept configs n key log e kept in
-        let ended : held_by_connections n key (log ++ e ∷ []) + one (is_connection_of key (live_connection log n conn)) ≡ held_by_connections n key log =
-        connections_ended n key log e makes conn (live_early log n conn last.half last.lived) (λ k. ends_is log e n k ∙ (ap (λ b. b && is_end r.reply) (steps k) ∙ (ap (λ b. (conn == k) && b) last.ends ∙ and_true (conn == k))))
-        in
-        let holder : one (is_connection_of key (live_connection log n conn)) ≡ one (peer.0 == key.0) = ap one (live_holds n key log conn last.half last.lived) in
-        let taken_grants = no_grants_stand n key m.taken taken_plain in
-        let ended_grants = no_grants_stand n key m.ended aside in
-        let granted : count_by (puts_grant n key) r.puts ≡ 0 = ap (λ xs. count_by (puts_grant n key) xs) last.puts ∙ no_grants_released peer in
-        let given_back : count_by (puts_release n key) r.puts ≡ one (peer.0 == key.0) = ap (λ xs. count_by (puts_release n key) xs) last.puts ∙ releases_released peer in
-        passed (event at seed a) r still m (omega (arith, held, ended, holder, taken_grants, ended_grants, granted, given_back))
-        (no_releases_stand n key m.taken taken_plain) (no_releases_stand n key m.ended aside)
-      where
-        no_grants_released : (k : Key) → count_by (puts_grant n key) (released n k) ≡ 0
-        no_grants_released k = count_by-none (puts_grant n key) (released n k) (refl, (refl, tt))
+    -- what is taken out of the reach of grants
+    pub taken_aside : (a : Act) (r : Row) (shape : Shape configs log a r) → Away n (reads configs log a) → Each (StandsPlain n key) shape.moves.taken
+    taken_aside a r shape read =
+        stand_aside n key shape.moves.taken
+        (Each-weaker (λ x. reads configs log a x.queue ≡ true) (λ x. IsAside n x.queue) (λ x h. away_aside n (reads configs log a) read x.queue h) shape.moves.taken shape.reach.taken)
 
-        releases_released : (k : Key) → count_by (puts_release n key) (released n k) ≡ one (k.0 == key.0)
-        releases_released k =
-            sum_by-cons (λ x. cond (puts_release n key x) 1 0) (queue.Router n, item.Release k) ((queue.Tracker n, item.Release k) ∷ [])
-            ∙ (zero_more (count_by (puts_release n key) ((queue.Tracker n, item.Release k) ∷ []))
-            ∙ (count_by-one (puts_release n key) (queue.Tracker n, item.Release k) ∙ ap one (ap (λ b. b && (k.0 == key.0)) (same_queue-refl (queue.Tracker n)))))
-          where
-            zero_more : (c : ℕ) → 0 + c ≡ c
-            zero_more c = omega arith
-
-    -- it goes on, or ends
-    pub step_weighs : (a : Act) (m conn : ℕ) (r : Row) (shape : Shape configs log a r) → Away n (reads configs log a) → Each (StandsPlain n key) shape.moves.ended → steps_tracker n a ≡ false → steps_spawner n a ≡ false
-        → ((k : ℕ) → (steps_sender n k a || steps_receiver n k a) ≡ ((m == n) && (conn == k))) → IsStep (Plain n key) log m conn r
+    -- an act ends connections of a node, whose grants their releases give back
+    pub ends_weighs : (a : Act) (m : ℕ) (cs : List (ℕ × Half)) (r : Row) (shape : Shape configs log a r) → Away n (reads configs log a) → Each (StandsPlain n key) shape.moves.ended → steps_tracker n a ≡ false → steps_spawner n a ≡ false
+        → ((k : ℕ) → ends_connection n k log (entry_of (event at seed a) r) ≡ ((m == n) && list_any (is_named k) cs))
+        → Each (λ c. live_half log m c.0 ≡ Some c.1) cs → AreNamedApart cs → r.puts ≡ all_released m cs
         → ((k : ℕ) → is_attempt_of key (attempts_by configs n log (entry_of (event at seed a) r) f k) ≡ is_attempt_of key (f k)) → Weighs (event at seed a) r
-    step_weighs a m conn r shape read aside still makes steps step kept = by step
+    ends_weighs a m cs r shape read aside still makes ends lived apart puts kept = by (m == n) refl
       where
-        plain : ((k : ℕ) → ends_connection n k log (entry_of (event at seed a) r) ≡ false) → Each (Plain n key) r.puts → Weighs (event at seed a) r
-        plain lives puts =
-            plain_weighs (event at seed a) r still makes lives shape.moves
+        e : Entry
+        e = entry_of (event at seed a) r
+
+        here : m ≡ n → (m == n) ≡ true → Weighs (event at seed a) r
+        here at_n same =
+            over_weighs (event at seed a) r still makes shape.moves (taken_aside a r shape read) aside
+            (ap (λ xs. count_by (puts_grant n key) xs) puts
+            ∙ count_by-none (puts_grant n key) (all_released m cs) (each_released (λ x. puts_grant n key x ≡ false) m cs (λ k. (refl, (refl, tt)))))
+            (ap (λ xs. count_by (puts_release n key) xs) (puts ∙ ap (λ i. all_released i cs) at_n)
+            ∙ (released_counted n key log cs apart (subst (λ i. Each (λ c. live_half log i c.0 ≡ Some c.1) cs) at_n lived)
+            ∙ sym (count_below-same (λ k. list_any (is_named k) cs && holds_key n key log k) (λ k. ends_connection n k log e && holds_key n key log k) (length log)
+            (λ k. ap (λ b. b && holds_key n key log k) (ends k ∙ ap (λ b. b && list_any (is_named k) cs) same))))) kept
+
+        by : (b : Bool) → (m == n) ≡ b → Weighs (event at seed a) r
+        by true same = here (eqb-true m n same) same
+        by false differ =
+            plain_weighs (event at seed a) r still makes (λ k. ends k ∙ ap (λ b. b && list_any (is_named k) cs) differ) shape.moves
             (record {
-              taken = stand_aside n key shape.moves.taken
-                  (Each-weaker (λ x. reads configs log a x.queue ≡ true) (λ x. IsAside n x.queue) (λ x h. away_aside n (reads configs log a) read x.queue h) shape.moves.taken shape.reach.taken);
+              taken = taken_aside a r shape read;
               ended = aside;
-              puts = puts;
+              puts = subst (Each (Plain n key)) (sym puts)
+                  (each_released (Plain n key) m cs
+                  (λ k. (plain_aside n key (queue.Router m) (item.Release k) (refl, refl), (plain_aside n key (queue.Tracker m) (item.Release k) (refl, ap (λ b. b && true) (other_way m n differ)), tt))));
             }) kept
 
-        by_node : (b : Bool) → (m == n) ≡ b → IsLast log m conn r → Weighs (event at seed a) r
-        by_node true same last =
-            last_weighs a conn r shape read aside still makes (λ k. steps k ∙ ap (λ b. b && (conn == k)) same) (subst (λ i. IsLast log i conn r) (eqb-true m n same) last) kept
-        by_node false differ last =
-            plain (λ k. ends_is log (entry_of (event at seed a) r) n k ∙ ap (λ b. b && is_end r.reply) (steps k ∙ ap (λ b. b && (conn == k)) differ))
-            (subst (Each (Plain n key)) (sym last.puts)
-            (plain_aside n key (queue.Router m) (item.Release last.half.peer) (refl, refl), (plain_aside n key (queue.Tracker m) (item.Release last.half.peer) (refl, ap (λ b. b && true) (other_way m n differ)), tt)))
+    -- a half goes on, or ends its connection
+    pub step_weighs : (a : Act) (m conn : ℕ) (r : Row) (shape : Shape configs log a r) → Away n (reads configs log a) → Each (StandsPlain n key) shape.moves.ended → steps_tracker n a ≡ false → steps_spawner n a ≡ false
+        → ((k : ℕ) → ends_connection n k log (entry_of (event at seed a) r) ≡ (((m == n) && (conn == k)) && is_end r.reply)) → IsStep (Plain n key) log m conn r
+        → ((k : ℕ) → is_attempt_of key (attempts_by configs n log (entry_of (event at seed a) r) f k) ≡ is_attempt_of key (f k)) → Weighs (event at seed a) r
+    step_weighs a m conn r shape read aside still makes ends step kept = by step
+      where
+        alone : (b c : Bool) → ((b && c) && true) ≡ (b && (c || false))
+        alone true true = refl
+        alone true false = refl
+        alone false c = refl
 
         by : IsStep (Plain n key) log m conn r → Weighs (event at seed a) r
-        by (inl goes) = plain (λ k. ends_none-reply log (entry_of (event at seed a) r) n k goes.0) goes.1
-        by (inr last) = by_node (m == n) refl last
+        by (inl goes) =
+            plain_weighs (event at seed a) r still makes (λ k. ends k ∙ (ap (λ b. ((m == n) && (conn == k)) && b) goes.0 ∙ and_false ((m == n) && (conn == k)))) shape.moves
+            (record { taken = taken_aside a r shape read; ended = aside; puts = goes.1 }) kept
+        by (inr last) =
+            ends_weighs a m ((conn, last.half) ∷ []) r shape read aside still makes (λ k. ends k ∙ (ap (λ b. ((m == n) && (conn == k)) && b) last.ends ∙ alone (m == n) (conn == k)))
+            (last.lived, tt) (refl, tt) last.puts kept
 
     -- ---- a row that drops the end of a link too
 
@@ -234,7 +269,7 @@ module _ (configs : List Config) (n : ℕ) (key : Key) (log : List Entry) where
             (λ k.
             let over : is_ended (log ++ entry_of ev s ∷ []) n k ≡ is_ended (log ++ entry_of ev r ∷ []) n k =
             is_ended-append log (entry_of ev s) n k
-            ∙ (ap (λ b. is_ended log n k || b) (ends_is log (entry_of ev s) n k ∙ sym (ends_is log (entry_of ev r) n k)) ∙ sym (is_ended-append log (entry_of ev r) n k))
+            ∙ (ap (λ items. is_ended log n k || list_any (is_over n k) (act_tells (told log) log (length log) ev.at ev.seed r.reply items r.puts ev.act)) took ∙ sym (is_ended-append log (entry_of ev r) n k))
             in
             let made : connections_of (log ++ entry_of ev s ∷ []) n k ≡ connections_of (log ++ entry_of ev r ∷ []) n k =
             connections_of-acted log (entry_of ev s) n (steps_spawner n ev.act) refl k

@@ -18,8 +18,6 @@ use Rattle.p2p_log.specs.declared.item.Item.{Item}
 use Rattle.p2p_log.specs.declared.item.Item.TheVariants as item
 use Rattle.p2p_log.specs.declared.item.Envelope.{Envelope}
 use Rattle.p2p_log.specs.declared.entry.Entry.{Entry}
-use Rattle.p2p_log.specs.declared.event.Act.{Act}
-use Rattle.p2p_log.specs.declared.event.Act.TheVariants as act
 use Rattle.p2p_log.specs.declared.event.Event.{Event}
 use Rattle.p2p_log.specs.QueueCode.{same_queue}
 use Rattle.p2p_log.specs.Lines.{name_of, placed, goes, stays, stands_in, live_from, live, line}
@@ -29,7 +27,7 @@ use Rattle.p2p_log.proofs.Queues.{same_queue-refl}
 use Rattle.p2p_log.proofs.Taken.{Has-taken}
 use Rattle.p2p_log_rules.specs.declared.row.Half.{Half}
 use Rattle.p2p_log_rules.specs.declared.row.Row.{Row}
-use Rattle.p2p_log_rules.specs.Connections.{half_at, is_end, ends_connection, is_begun, is_ended, live_connection}
+use Rattle.p2p_log_rules.specs.Connections.{half_at, ends_connection, is_begun, is_ended, live_connection}
 use Rattle.p2p_log_rules.specs.Effect.{effect, entry_of, row}
 use Rattle.p2p_log_rules.specs.Facts.{taken, state_from}
 use Rattle.p2p_log_rules.specs.Lawful.{IsLawful}
@@ -38,7 +36,7 @@ use Rattle.p2p_log_rules.specs.Spawning.{Spawned, connections_of}
 use Rattle.p2p_log_rules.specs.Told.{told as all_told}
 use Rattle.p2p_log_rules.specs.Tracking.{key_cmp, rules_at, steps_tracker, grants_peer, calls_of}
 use Rattle.p2p_log_rules.proofs.Calls.{step_calls, calls_of-append}
-use Rattle.p2p_log_rules.proofs.Connections.{half_act, end_of, half_parts, is_live}
+use Rattle.p2p_log_rules.proofs.Connections.{half_parts, is_live}
 use Rattle.p2p_log_rules.proofs.Lawful.{IsLawful-append}
 use Rattle.p2p_log_rules.proofs.Moves.{taken_stood}
 use Rattle.p2p_log_laws.specs.Grants.{one, Granting, is_held, is_stopped, Hands, IsTurn, turn_by, held_after}
@@ -50,10 +48,10 @@ use Rattle.p2p_log_laws.proofs.ConnectedCalls.{Follows, connects_key, first_conn
 use Rattle.p2p_log_laws.proofs.ConnectionHolds.{held_by_connections}
 use Rattle.p2p_log_laws.proofs.CountBelow.{count_below-one}
 use Rattle.p2p_log_laws.proofs.EndOlder.{connection_before, open_parts, of_key}
+use Rattle.p2p_log_laws.proofs.Ending.{ending}
 use Rattle.p2p_log_laws.proofs.HeldCalls.{key_from}
 use Rattle.p2p_log_laws.proofs.Leaving.{taken_first}
 use Rattle.p2p_log_laws.proofs.Ledger.{Told, Told-end}
-use Rattle.p2p_log_laws.proofs.Living.{end_row_is}
 use Rattle.p2p_log_laws.proofs.NodeGrants.{each_node_turn, held_by_calls}
 use Rattle.p2p_log_laws.proofs.Reaching.{reads}
 use Rattle.p2p_log_laws.proofs.Shape.{Shape}
@@ -116,10 +114,6 @@ take_front (x ∷ xs) ys = ap (λ l. x ∷ l) (take_front xs ys)
 
 not_later : (a b c d : ℕ) → ((nat_lt a c) || ((a == c) && nat_lt b d)) ≡ true → c < a → ⊥
 not_later a b c d h less = grind (arith, nat_tests)
-
-no_tracker : (n conn : ℕ) (sends : Bool) (a : Act) → a ≡ half_act sends conn n → steps_tracker n a ≡ false
-no_tracker n conn true a acts = ap (steps_tracker n) acts
-no_tracker n conn false a acts = ap (steps_tracker n) acts
 
 -- ---- what holds
 
@@ -279,17 +273,16 @@ module _ (configs : List Config) (n : ℕ) where
     pub ends_waits : (conn : ℕ) (c : Spawned) → live_connection before n conn ≡ Some c → ends_connection n conn before e ≡ true → 1 ≤ waits c.key log
     unfolding effect
     ends_waits conn c lives ends =
-        let over = end_row_is configs before ev n conn told.standing.fitting ends in
+        let over = ending configs before ev n conn ends in
         let of = of_half script before lawful conn over.half (is_live before n conn over.half over.lived).at in
         let same : of.made ≡ c = same_Some of.made c (sym of.there ∙ (open_parts before n conn c lives).made) in
         let peer : c.key ≡ over.half.peer = ap (λ (k : Spawned). k.key) (sym same) ∙ of.of in
-        let put : Has r.puts (queue.Tracker n, item.Release over.half.peer) = subst (λ (k : Row). Has k.puts (queue.Tracker n, item.Release over.half.peer)) (sym over.is) (inr (inl refl)) in
+        let put : Has r.puts (queue.Tracker n, item.Release over.half.peer) = get_has r.puts (suc over.place) (queue.Tracker n, item.Release over.half.peer) over.tracker in
         let is : puts_release n c.key (queue.Tracker n, item.Release over.half.peer) ≡ true =
         ap (λ b. b && (over.half.peer.0 == c.key.0)) (same_queue-refl (queue.Tracker n)) ∙ eq-eqb over.half.peer.0 c.key.0 (ap (λ (k : Key). k.0) (sym peer))
         in
-        let end = end_of before e n conn ends in
         waits_now c.key (count_has (puts_release n c.key) r.puts (queue.Tracker n, item.Release over.half.peer) put is)
-        (ap (λ b. b && list_any (releases_key c.key) (taken before e)) (no_tracker n conn end.sends ev.act end.acts))
+        (ap (λ b. b && list_any (releases_key c.key) (taken before e)) over.aside)
 
     -- ---- what is taken
 

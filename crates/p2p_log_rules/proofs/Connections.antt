@@ -49,6 +49,10 @@ abbrev pub steps_receiver : ℕ → ℕ → Act → Bool
 steps_receiver n conn (act.RecvStep e m) = (m == n) && (e == conn)
 steps_receiver n conn _ = false
 
+-- an act that may end it
+abbrev pub may_end : ℕ → ℕ → Act → Bool
+may_end n conn a = steps_sender n conn a || steps_receiver n conn a
+
 -- a step of the sending half of a connection, or of the receiving half
 abbrev pub half_act : Bool → ℕ → ℕ → Act
 half_act true conn n = act.SendStep conn n
@@ -57,10 +61,6 @@ half_act false conn n = act.RecvStep conn n
 pub sender_is : (n conn : ℕ) (a : Act) → steps_sender n conn a ≡ true → a ≡ half_act true conn n
 sender_is n conn (act.SendStep c m) h = let both = and_parts (m == n) (c == conn) h in ap (λ k. act.SendStep k m) (eqb-true c conn both.1) ∙ ap (act.SendStep conn) (eqb-true m n both.0)
 sender_is n conn _ h = absurd (false≢true h)
-
-pub receiver_is : (n conn : ℕ) (a : Act) → steps_receiver n conn a ≡ true → a ≡ half_act false conn n
-receiver_is n conn (act.RecvStep c m) h = let both = and_parts (m == n) (c == conn) h in ap (λ k. act.RecvStep k m) (eqb-true c conn both.1) ∙ ap (act.RecvStep conn) (eqb-true m n both.0)
-receiver_is n conn _ h = absurd (false≢true h)
 
 -- it tells of no end of a connection
 abbrev pub EndsNone : Act → Type 0
@@ -134,39 +134,41 @@ module _ (log : List Entry) (e : Entry) (n conn : ℕ) where
   over_kinds (telling.connection_ended m c) h = cc
   over_kinds _ h = refl
 
-  swapped : (b c : Bool) → ((b && c) || false) ≡ ((c || false) && b)
+  swapped : (b c : Bool) → ((b && c) || false) ≡ (c && b)
   swapped true true = refl
   swapped true false = refl
-  swapped false c = sym (and_false (c || false))
+  swapped false c = sym (and_false c)
 
-  -- one ends by such an act where it is a step of one of its halves, and says so
-  pub ends_act : (a : Act) → e.event.act ≡ a → ends_connection n conn log e ≡ ((steps_sender n conn a || steps_receiver n conn a) && is_end e.reply)
+  -- a step of one of the halves of a connection ends that one, where it says so
+  pub ends_half : (sends : Bool) (c m : ℕ) → e.event.act ≡ half_act sends c m → ends_connection n conn log e ≡ (((m == n) && (c == conn)) && is_end e.reply)
   unfolding tells
-  ends_act (act.SendStep c m) is =
+  ends_half true c m is =
       sent (is_over n conn) (λ link s. refl) c m is
       ∙ (ap (λ b. (is_end e.reply && ((m == n) && (c == conn))) || b) (sender_quiet (is_over n conn) 0 e.event.at m c e.reply (taken log e) e.puts (record { step = refl; runs = refl; pings = refl }))
       ∙ swapped (is_end e.reply) ((m == n) && (c == conn)))
-  ends_act (act.RecvStep c m) is =
+  ends_half false c m is =
       ap (λ a. list_any (is_over n conn) (act_tells (told log) log (length log) e.event.at e.event.seed e.reply (taken log e) e.puts a)) is
       ∙ (half_told (is_over n conn) 0 0 m c e.reply (half_in (told log) m c) (admitted_tells m c e.event.at e.reply (taken log e) e.puts) (λ link s. refl)
       ∙ (ap (λ b. (is_end e.reply && ((m == n) && (c == conn))) || b) (admitted_quiet (is_over n conn) 0 e.event.at m c e.reply (taken log e) e.puts (λ i. refl))
-      ∙ (swapped (is_end e.reply) ((m == n) && (c == conn)) ∙ ap (λ b. b && is_end e.reply) (or_false ((m == n) && (c == conn))))))
-  ends_act a is = untold_some (is_over n conn) (28 ∷ []) over_kinds log e a is refl
+      ∙ swapped (is_end e.reply) ((m == n) && (c == conn))))
 
-  pub ends_is : ends_connection n conn log e ≡ ((steps_sender n conn e.event.act || steps_receiver n conn e.event.act) && is_end e.reply)
-  ends_is = ends_act e.event.act refl
+  -- and of all other acts none ends any
+  pub ends_act : (a : Act) → e.event.act ≡ a → ends_connection n conn log e ≡ (may_end n conn a && is_end e.reply)
+  ends_act (act.SendStep c m) is = ends_half true c m is ∙ ap (λ b. b && is_end e.reply) (sym (or_false ((m == n) && (c == conn))))
+  ends_act (act.RecvStep c m) is = ends_half false c m is
+  ends_act a is = untold_some (is_over n conn) (28 ∷ []) over_kinds log e a is refl
 
   -- an act that tells of no end ends none
   pub ends_untold : (a : Act) → e.event.act ≡ a → EndsNone a → ends_connection n conn log e ≡ false
   ends_untold a is none = untold_some (is_over n conn) (28 ∷ []) over_kinds log e a is none
 
-  -- nor does one that is no step of its halves
-  pub ends_none-act : (a : Act) → e.event.act ≡ a → (steps_sender n conn a || steps_receiver n conn a) ≡ false → ends_connection n conn log e ≡ false
+  -- nor does one that may not end it
+  pub ends_none-act : (a : Act) → e.event.act ≡ a → may_end n conn a ≡ false → ends_connection n conn log e ≡ false
   ends_none-act a is h = ends_act a is ∙ ap (λ b. b && is_end e.reply) h
 
   -- nor does another reply
   pub ends_none-reply : is_end e.reply ≡ false → ends_connection n conn log e ≡ false
-  ends_none-reply h = ends_is ∙ (ap (λ b. (steps_sender n conn e.event.act || steps_receiver n conn e.event.act) && b) h ∙ and_false (steps_sender n conn e.event.act || steps_receiver n conn e.event.act))
+  ends_none-reply h = ends_act e.event.act refl ∙ (ap (λ b. may_end n conn e.event.act && b) h ∙ and_false (may_end n conn e.event.act))
 
 -- ---- what an entry is that tells so
 
@@ -178,21 +180,22 @@ pub record IsEndOf (e : Entry) (n conn : ℕ) : Type 0 where
 
 module _ (log : List Entry) (e : Entry) (n conn : ℕ) where
   pub end_of : ends_connection n conn log e ≡ true → IsEndOf e n conn
-  end_of h =
-      let both = and_parts (steps_sender n conn e.event.act || steps_receiver n conn e.event.act) (is_end e.reply) (sym (ends_is log e n conn) ∙ h) in
-      by (steps_sender n conn e.event.act) refl both.0 both.1
+  end_of h = by e.event.act refl
     where
-      by : (b : Bool) → steps_sender n conn e.event.act ≡ b → (b || steps_receiver n conn e.event.act) ≡ true → is_end e.reply ≡ true → IsEndOf e n conn
-      by true is h says = record { sends = true; acts = sender_is n conn e.event.act is; says = says }
-      by false is h says = record { sends = false; acts = receiver_is n conn e.event.act h; says = says }
+      named : (sends : Bool) (c m : ℕ) → e.event.act ≡ half_act sends c m → IsEndOf e n conn
+      named sends c m is =
+          let both = and_parts ((m == n) && (c == conn)) (is_end e.reply) (sym (ends_half log e n conn sends c m is) ∙ h) in
+          let here = and_parts (m == n) (c == conn) both.0 in
+          record { sends = sends; acts = is ∙ (ap (λ k. half_act sends k m) (eqb-true c conn here.1) ∙ ap (half_act sends conn) (eqb-true m n here.0)); says = both.1 }
+
+      by : (a : Act) → e.event.act ≡ a → IsEndOf e n conn
+      by (act.SendStep c m) is = named true c m is
+      by (act.RecvStep c m) is = named false c m is
+      by a is = absurd (false≢true (sym (ends_untold log e n conn a is refl) ∙ h))
 
   -- and such a step ends it
   pub end_by : (sends : Bool) → e.event.act ≡ half_act sends conn n → is_end e.reply ≡ true → ends_connection n conn log e ≡ true
-  end_by true acts says = ends_act log e n conn (act.SendStep conn n) acts ∙ (ap (λ b. (b || false) && is_end e.reply) (here n conn) ∙ says)
-    where
-      here : (n conn : ℕ) → ((n == n) && (conn == conn)) ≡ true
-      here n conn = grind (arith, nat_tests)
-  end_by false acts says = ends_act log e n conn (act.RecvStep conn n) acts ∙ (ap (λ b. b && is_end e.reply) (here n conn) ∙ says)
+  end_by sends acts says = ends_half log e n conn sends conn n acts ∙ (ap (λ b. b && is_end e.reply) (here n conn) ∙ says)
     where
       here : (n conn : ℕ) → ((n == n) && (conn == conn)) ≡ true
       here n conn = grind (arith, nat_tests)

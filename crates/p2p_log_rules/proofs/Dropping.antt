@@ -203,24 +203,11 @@ none_dropped (_ ∷ ts) h = none_dropped ts h
 
 -- whether an act drops no end, whatever it comes to
 abbrev pub drops_none : Act → Bool
-drops_none (act.Attempt d n) = false
-drops_none (act.Handshake h n) = false
-drops_none (act.SendStep conn n) = false
-drops_none (act.RecvStep conn n) = false
-drops_none (act.Listener n) = false
-drops_none _ = true
+drops_none a = are_apart (kinds_of a) (14 ∷ [])
 
 of_kinds : (t : Telling) → has (14 ∷ []) (kind t) ≡ false → is_drop t ≡ false
 of_kinds (telling.end_dropped link s) h = cc
 of_kinds _ h = refl
 
 pub drops_of-none : (log : List Entry) (e : Entry) → drops_none e.event.act ≡ true → drops_of log e ≡ []
-drops_of-none log e h = none_dropped (tells (told log) log e) (untold_of is_drop (14 ∷ []) of_kinds (told log) log e (apart e.event.act h))
-  where
-    apart : (a : Act) → drops_none a ≡ true → are_apart (kinds_of a) (14 ∷ []) ≡ true
-    apart (act.Attempt d n) h = cc
-    apart (act.Handshake k n) h = cc
-    apart (act.SendStep conn n) h = cc
-    apart (act.RecvStep conn n) h = cc
-    apart (act.Listener n) h = cc
-    apart _ h = refl
+drops_of-none log e h = none_dropped (tells (told log) log e) (untold_of is_drop (14 ∷ []) of_kinds (told log) log e h)
