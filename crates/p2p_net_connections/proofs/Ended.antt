@@ -1,4 +1,4 @@
--- The connections of a node after an entry that ends one of them.
+-- The connections of a node after an entry that ends some of them.
 use Rattle.std.proofs.Common.{◌≡◌, ℕ, Bool, true, false, cond, List, [], ◌∷◌, ◌++◌, refl, ap, sym, subst, ◌∙◌, Option, None}
 use Rattle.std.specs.Prelude.{◌==◌, ◌||◌, is_some}
 use Rattle.std.specs.Ordering.{nat_cmp}
@@ -22,19 +22,23 @@ use Rattle.p2p_net_connections.proofs.Changes.{begun-kept, idle-kept, pings_kept
 use Rattle.p2p_net_connections.proofs.Dialing.{connected_by-longer, connected_by-cond}
 use Rattle.p2p_net_connections.proofs.Pings.{pinged-kept}
 
--- an entry that ends this connection and no other; none is made or begins, and none admits a ping
-pub record EndsOne (configs : List Config) (log : List Entry) (e : Entry) (n conn : ℕ) : Type 0 where
-  pub ends : (k : ℕ) → ends_connection n k log e ≡ (k == conn)
+-- an entry that ends those connections of which this is so, and no other; none is made or begins, and none admits a ping
+pub record EndsThose (configs : List Config) (log : List Entry) (e : Entry) (n : ℕ) (over : ℕ → Bool) : Type 0 where
+  pub ends : (k : ℕ) → ends_connection n k log e ≡ over k
   pub makes_none : (k : ℕ) → connections_of (log ++ e ∷ []) n k ≡ connections_of log n k
   pub no_begin : (k : ℕ) → begins n k log e ≡ false
   pub no_ping : (k : ℕ) → admitted_by (limit_at configs n) n k pings log e ≡ []
 
--- it is none of those that live from then on
-pub live_connection-ended : (configs : List Config) (log : List Entry) (e : Entry) (n conn : ℕ) → EndsOne configs log e n conn → (k : ℕ)
-    → live_connection (log ++ e ∷ []) n k ≡ cond (k == conn) None (live_connection log n k)
-live_connection-ended configs log e n conn one k =
-    ap (λ b. cond b None (connections_of (log ++ e ∷ []) n k)) (is_ended-append log e n k ∙ ap (λ b. is_ended log n k || b) (one.ends k))
-    ∙ (ap (λ o. cond (is_ended log n k || (k == conn)) None o) (one.makes_none k) ∙ by (is_ended log n k) (k == conn) (connections_of log n k))
+-- one that ends this connection alone
+abbrev pub EndsOne : List Config → List Entry → Entry → ℕ → ℕ → Type 0
+EndsOne configs log e n conn = EndsThose configs log e n (λ k. k == conn)
+
+-- they are none of those that live from then on
+pub live_connection-ended : (configs : List Config) (log : List Entry) (e : Entry) (n : ℕ) (over : ℕ → Bool) → EndsThose configs log e n over → (k : ℕ)
+    → live_connection (log ++ e ∷ []) n k ≡ cond (over k) None (live_connection log n k)
+live_connection-ended configs log e n over those k =
+    ap (λ b. cond b None (connections_of (log ++ e ∷ []) n k)) (is_ended-append log e n k ∙ ap (λ b. is_ended log n k || b) (those.ends k))
+    ∙ (ap (λ o. cond (is_ended log n k || over k) None o) (those.makes_none k) ∙ by (is_ended log n k) (over k) (connections_of log n k))
   where
     by : (b c : Bool) (o : Option Spawned) → cond (b || c) None o ≡ cond c None (cond b None o)
     by true true o = refl
@@ -46,23 +50,30 @@ spawned_but : (b : Bool) (o : Option Connection) → spawned_on (cond b None o) 
 spawned_but true o = refl
 spawned_but false o = refl
 
--- without it, and with what waits then, they stand for the log
+-- without them, and with what waits then, they stand for the log
+pub connections_over : (configs : List Config) (log : List Entry) (e : Entry) (n : ℕ) (over : ℕ → Bool) (cs new : Connections) → ConnectionsStand configs log n cs → EndsThose configs log e n over
+    → ((k : ℕ) → at new.spawned k ≡ cond (over k) None (at cs.spawned k)) → new.stages ≡ cs.stages → new.pings ≡ cs.pings
+    → HoldsLines (queue.Ready n) (log ++ e ∷ []) new.answers → HoldsLines (queue.Held n) (log ++ e ∷ []) new.held
+    → ConnectionsStand configs (log ++ e ∷ []) n new
+connections_over configs log e n over cs new s those left stages quota waits holds = record {
+  spawned = λ k.
+      ap spawned_on (left k)
+      ∙ (spawned_but (over k) (at cs.spawned k)
+      ∙ (ap (λ (o : Option Spawned). cond (over k) None o) (s.spawned k) ∙ sym (live_connection-ended configs log e n over those k)));
+  reserved = λ k.
+      subst (IsConnectedBy (log ++ e ∷ []) n) (sym (left k))
+      (connected_by-cond (log ++ e ∷ []) n (over k) None (at cs.spawned k) tt (connected_by-longer log (e ∷ []) n (at cs.spawned k) (s.reserved k)));
+  begun = λ k. ap (λ st. is_some (at st k)) stages ∙ (s.begun k ∙ sym (begun-kept log e n k (those.no_begin k)));
+  running = λ k. ap (λ st. runs_on (at st k)) stages ∙ (s.running k ∙ sym (idle-kept log e n k (those.no_begin k)));
+  pinged = λ k. ap (λ st. pinged_on (at st k)) stages ∙ (s.pinged k ∙ sym (pinged-kept configs log e n k (those.no_begin k)));
+  waits = waits;
+  holds = holds;
+  pings = subst (Meters nat_cmp (log ++ e ∷ []) (ping_quota (ping_frequency_at configs n)) (λ k. admitted configs (log ++ e ∷ []) n k pings)) (sym quota) (pings_kept configs log e n cs s those.no_ping);
+}
+
+-- without one
 pub connections_ended : (configs : List Config) (log : List Entry) (e : Entry) (n conn : ℕ) (cs new : Connections) → ConnectionsStand configs log n cs → EndsOne configs log e n conn
     → AreBut conn None cs.spawned new.spawned → new.stages ≡ cs.stages → new.pings ≡ cs.pings
     → HoldsLines (queue.Ready n) (log ++ e ∷ []) new.answers → HoldsLines (queue.Held n) (log ++ e ∷ []) new.held
     → ConnectionsStand configs (log ++ e ∷ []) n new
-connections_ended configs log e n conn cs new s one left stages quota waits holds = record {
-  spawned = λ k.
-      ap spawned_on (left k)
-      ∙ (spawned_but (k == conn) (at cs.spawned k)
-      ∙ (ap (λ (o : Option Spawned). cond (k == conn) None o) (s.spawned k) ∙ sym (live_connection-ended configs log e n conn one k)));
-  reserved = λ k.
-      subst (IsConnectedBy (log ++ e ∷ []) n) (sym (left k))
-      (connected_by-cond (log ++ e ∷ []) n (k == conn) None (at cs.spawned k) tt (connected_by-longer log (e ∷ []) n (at cs.spawned k) (s.reserved k)));
-  begun = λ k. ap (λ st. is_some (at st k)) stages ∙ (s.begun k ∙ sym (begun-kept log e n k (one.no_begin k)));
-  running = λ k. ap (λ st. runs_on (at st k)) stages ∙ (s.running k ∙ sym (idle-kept log e n k (one.no_begin k)));
-  pinged = λ k. ap (λ st. pinged_on (at st k)) stages ∙ (s.pinged k ∙ sym (pinged-kept configs log e n k (one.no_begin k)));
-  waits = waits;
-  holds = holds;
-  pings = subst (Meters nat_cmp (log ++ e ∷ []) (ping_quota (ping_frequency_at configs n)) (λ k. admitted configs (log ++ e ∷ []) n k pings)) (sym quota) (pings_kept configs log e n cs s one.no_ping);
-}
+connections_ended configs log e n conn = connections_over configs log e n (λ k. k == conn)

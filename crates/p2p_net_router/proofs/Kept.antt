@@ -11,7 +11,7 @@ use Rattle.p2p_log_rules.specs.declared.row.Row.{Row}
 use Rattle.p2p_log.specs.Lines.{stays, placed, live}
 use Rattle.p2p_log_rules.specs.Facts.{starts, is_up, registers_at, channels, sum_capacities}
 use Rattle.p2p_log_rules.specs.Effect.{entry_of, mailbox_size_at, router_capacity}
-use Rattle.p2p_log_rules.proofs.Connections.{steps_sender, steps_receiver}
+use Rattle.p2p_log_rules.proofs.Connections.{may_end}
 use Rattle.p2p_log_rules.proofs.Channels.{channels-append, is_up-append}
 use Rattle.p2p_log_rules.proofs.Families.{kinds_of, are_apart}
 use Rattle.p2p_log_rules.proofs.Routing.{route_kinds}
@@ -35,7 +35,7 @@ channels_same configs log e n none = channels-append configs log e n ∙ (ap (λ
 pub stands_kept :
     (configs : List Config) (log : List Entry) (entry : ℕ) (event : Event) (a : Act) (r : Router) (desk : Desk Key) (names : Board Name) (row : Row)
     → StandsFor configs log r → length log ≡ entry → event.act ≡ a → are_apart (kinds_of a) route_kinds ≡ true → registers_at configs r.number a ≡ []
-    → ((conn : ℕ) → (steps_sender r.number conn a || steps_receiver r.number conn a) ≡ false)
+    → ((conn : ℕ) → may_end r.number conn a ≡ false)
     → Holds (mailbox_size_at configs r.number) (rebound r desk names) (after entry row (live log))
     → is_bound desk.binding ≡ (is_up log r.number || starts r.number a)
     → HasPlaces (router_capacity configs log r.number) desk.binding

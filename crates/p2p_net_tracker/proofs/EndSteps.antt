@@ -1,6 +1,6 @@
 -- A connection of a node ends, and its tracker is told that the peer is free: the tracker stands for the log with that entry.
 use Rattle.std.proofs.Common.{◌≡◌, ℕ, Bool, true, false, cond, List, [], ◌∷◌, ◌++◌, drop, length, refl, ap, sym, subst, ◌∙◌, arith, eq-eqb, Some, None}
-use Rattle.std.specs.Prelude.{filter, ◌==◌, ◌&&◌, ◌||◌, slice_get, if◌then◌else◌}
+use Rattle.std.specs.Prelude.{filter, ◌==◌, ◌&&◌, slice_get, if◌then◌else◌}
 use Rattle.std.proofs.lemmas.Bool.Decides.{nat_tests}
 use Rattle.p2p_base.specs.declared.key.Key.{Key}
 use Rattle.p2p_tracker_directory.specs.Reserved.{peer_of}
@@ -18,7 +18,7 @@ use Rattle.p2p_log.specs.QueueCode.{same_queue}
 use Rattle.p2p_log.specs.Lines.{line, placed, stands_in}
 use Rattle.p2p_log.proofs.Queues.{same_queue-refl}
 use Rattle.p2p_log.proofs.QueueNames.{queue_from_same}
-use Rattle.p2p_log_rules.proofs.Connections.{ends_act}
+use Rattle.p2p_log_rules.proofs.Connections.{half_act, ends_half}
 use Rattle.p2p_log_rules.specs.Connections.{is_end, ends_connection}
 use Rattle.p2p_log_rules.specs.Handshakes.{handshakes_of}
 use Rattle.p2p_log_rules.specs.Tracking.{steps_tracker}
@@ -90,17 +90,17 @@ tracker_ended configs log e n conn place reserved t u s q =
 
 -- a step of a half ends its own connection, where it tells of an end
 module _ (log : List Entry) (e : Entry) (n conn : ℕ) (end : is_end e.reply ≡ true) where
-  pub sender_ends : e.event.act ≡ act.SendStep conn n → (c : ℕ) → ends_connection n c log e ≡ (c == conn)
-  sender_ends acts c = ends_act log e n c (act.SendStep conn n) acts ∙ (ap (λ b. (((n == n) && (conn == c)) || false) && b) end ∙ same n conn c)
-    where
-      same : (n conn c : ℕ) → ((((n == n) && (conn == c)) || false) && true) ≡ (c == conn)
-      same n conn c = grind (arith, nat_tests)
-
-  pub receiver_ends : e.event.act ≡ act.RecvStep conn n → (c : ℕ) → ends_connection n c log e ≡ (c == conn)
-  receiver_ends acts c = ends_act log e n c (act.RecvStep conn n) acts ∙ (ap (λ b. ((n == n) && (conn == c)) && b) end ∙ same n conn c)
+  half_ends : (sends : Bool) → e.event.act ≡ half_act sends conn n → (c : ℕ) → ends_connection n c log e ≡ (c == conn)
+  half_ends sends acts c = ends_half log e n c sends conn n acts ∙ (ap (λ b. ((n == n) && (conn == c)) && b) end ∙ same n conn c)
     where
       same : (n conn c : ℕ) → (((n == n) && (conn == c)) && true) ≡ (c == conn)
       same n conn c = grind (arith, nat_tests)
+
+  pub sender_ends : e.event.act ≡ act.SendStep conn n → (c : ℕ) → ends_connection n c log e ≡ (c == conn)
+  sender_ends = half_ends true
+
+  pub receiver_ends : e.event.act ≡ act.RecvStep conn n → (c : ℕ) → ends_connection n c log e ≡ (c == conn)
+  receiver_ends = half_ends false
 
 -- the router is told first, and then the tracker
 module _ (log : List Entry) (e : Entry) (n : ℕ) (peer : Key) (puts : e.puts ≡ (queue.Router n, item.Release peer) ∷ (queue.Tracker n, item.Release peer) ∷ []) where

@@ -8,7 +8,7 @@ use Rattle.p2p_log.specs.declared.event.Act.{Act}
 use Rattle.p2p_log.specs.declared.event.Act.TheVariants as act
 use Rattle.p2p_log_rules.specs.Connections.{is_end, ends_connection, is_ended}
 pub use Rattle.p2p_log_rules.proofs.Connections.{is_ended-append, is_ended-kept, is_ended-none}
-use Rattle.p2p_log_rules.proofs.Connections.{steps_sender, steps_receiver, ends_none-act, ends_none-reply}
+use Rattle.p2p_log_rules.proofs.Connections.{may_end, ends_none-act, ends_none-reply}
 use Rattle.p2p_net_queues.specs.Tables.{at}
 use Rattle.p2p_net_queues.proofs.Tables.{at-inserted}
 use Rattle.p2p_net_tracker.specs.Heeding.{is_noted}
@@ -25,7 +25,7 @@ steps_half n _ = false
 pub no_end-act : (n : ℕ) (log : List Entry) (e : Entry) → steps_half n e.event.act ≡ false → (conn : ℕ) → ends_connection n conn log e ≡ false
 no_end-act n log e none conn = ends_none-act log e n conn e.event.act refl (by e.event.act none)
   where
-    by : (a : Act) → steps_half n a ≡ false → (steps_sender n conn a || steps_receiver n conn a) ≡ false
+    by : (a : Act) → steps_half n a ≡ false → may_end n conn a ≡ false
     by (act.SendStep k m) none = ap (λ b. (b && (k == conn)) || false) none
     by (act.RecvStep k m) none = ap (λ b. b && (k == conn)) none
     by _ none = refl
