@@ -28,13 +28,14 @@ use Rattle.p2p_log_rules.specs.declared.row.Row.{Row}
 use Rattle.p2p_log_rules.specs.Effect.{entry_of}
 use Rattle.p2p_log_rules.specs.Facts.{taken}
 use Rattle.p2p_log_rules.specs.Moves.{Moves}
-use Rattle.p2p_log_rules.specs.Tracking.{rules_at, asked_by, steps_tracker, grants_peer, calls_of}
+use Rattle.p2p_log_rules.specs.Tracking.{rules_at, asked_by, grants_peer, calls_of}
 use Rattle.p2p_log_rules.proofs.Calls.{asked_calls, item_calls, step_calls, calls_by}
 use Rattle.p2p_log_laws.proofs.Reaching.{Reach, reads}
 use Rattle.p2p_log_laws.specs.Grants.{one}
 use Rattle.p2p_log_laws.specs.NodeGrants.{put_of}
 use Rattle.p2p_log_laws.proofs.BegunPuts.{at_tracker, is_connect, tells_begun}
 use Rattle.p2p_log_laws.proofs.Weighing.{weight, taken_items}
+use Rattle.p2p_log_rules.proofs.Steps.{steps_tracker}
 
 abbrev pub calls_for : ℕ → Call Key → Bool
 calls_for conn (call.Connect key at e) = e == conn

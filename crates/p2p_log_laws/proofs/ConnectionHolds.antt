@@ -10,13 +10,14 @@ use Rattle.p2p_log.specs.declared.event.Act.TheVariants as act
 use Rattle.p2p_log_rules.specs.declared.row.Half.{Half}
 use Rattle.p2p_log_rules.specs.Connections.{ends_connection, is_ended, live_connection, live_half}
 use Rattle.p2p_log_rules.specs.Facts.{taken, with_begun}
-use Rattle.p2p_log_rules.specs.Spawning.{Spawned, steps_spawner, spawned_of, connections_of}
+use Rattle.p2p_log_rules.specs.Spawning.{Spawned, spawned_of, connections_of}
 use Rattle.p2p_log_rules.proofs.Connections.{EndsNone, ends_untold, is_ended-append, is_ended-kept, HalfParts, half_parts, is_live, live_connection-kept}
 use Rattle.p2p_log_rules.proofs.Spawning.{connections_of-acted, connections_of-late}
 use Rattle.p2p_log_laws.specs.Grants.{one}
 use Rattle.p2p_log_laws.specs.NodeGrants.{count_below, is_connection_of}
 use Rattle.p2p_log_laws.proofs.CountBelow.{begun_test, count_kept, count_begun, count_less}
 use Rattle.p2p_log_laws.proofs.StandingAttempts.{longer}
+use Rattle.p2p_log_rules.proofs.Steps.{steps_spawner}
 
 -- what has not ended was made by an earlier entry
 pub live_early : (log : List Entry) (n conn : ℕ) (half : Half) → live_half log n conn ≡ Some half → conn < length log

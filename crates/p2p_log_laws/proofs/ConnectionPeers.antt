@@ -26,7 +26,7 @@ use Rattle.p2p_log_rules.specs.Facts.{taken, state_from, with_begun}
 use Rattle.p2p_log_rules.specs.Handshakes.{handshakes_of}
 use Rattle.p2p_log_rules.specs.Lawful.{IsLawful}
 use Rattle.p2p_log_rules.specs.Links.{openings_of}
-use Rattle.p2p_log_rules.specs.Spawning.{Spawned, steps_spawner, spawned_of, connections_of}
+use Rattle.p2p_log_rules.specs.Spawning.{Spawned, spawned_of, connections_of}
 use Rattle.p2p_log_rules.proofs.Moves.{taken_stood}
 use Rattle.p2p_log_rules.proofs.Spawning.{connections_of-acted}
 use Rattle.p2p_log_laws.proofs.Reaching.{reads}
@@ -41,6 +41,7 @@ use Rattle.p2p_log_laws.proofs.Saying.{Says, PutSays, StandSays, PeersCome, AreO
 use Rattle.p2p_log_laws.proofs.Shape.{Shape}
 use Rattle.p2p_log_laws.proofs.Shapes.{row_shape}
 use Rattle.p2p_log_laws.proofs.Weighing.{taken_items}
+use Rattle.p2p_log_rules.proofs.Steps.{steps_spawner}
 
 -- all that is known of links, which each entry keeps
 pub record AreLed (configs : List Config) (log : List Entry) : Type 0 where

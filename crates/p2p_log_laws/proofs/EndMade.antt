@@ -25,13 +25,14 @@ use Rattle.p2p_log_rules.specs.Effect.{effect, row, entry_of}
 use Rattle.p2p_log_rules.specs.Facts.{is_up, item_named, taken, with_begun}
 use Rattle.p2p_log_rules.specs.Lawful.{IsLawful}
 use Rattle.p2p_log_rules.specs.Rows.{only, takes_oldest}
-use Rattle.p2p_log_rules.specs.Spawning.{Spawned, steps_spawner, spawned_of, connections_of}
+use Rattle.p2p_log_rules.specs.Spawning.{Spawned, spawned_of, connections_of}
 use Rattle.p2p_log_rules.proofs.Connections.{is_ended-kept, ends_untold}
 use Rattle.p2p_log_rules.proofs.Lawful.{IsLawful-nil, IsLawful-append}
 use Rattle.p2p_log_rules.proofs.Recorded.{item_named-first}
 use Rattle.p2p_log_rules.proofs.Spawning.{connections_of-acted, connections_of-late, connections_of-longer}
 use Rattle.p2p_log_laws.proofs.Living.{unended_late}
 use Rattle.p2p_log_laws.proofs.Prefixes.{take_next, take_no_more, entry_due, at_end, lawful_at_each}
+use Rattle.p2p_log_rules.proofs.Steps.{steps_spawner}
 
 -- ---- beginnings of a log
 

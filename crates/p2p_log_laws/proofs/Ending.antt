@@ -15,7 +15,7 @@ use Rattle.p2p_log_rules.specs.declared.row.Half.{Half}
 use Rattle.p2p_log_rules.specs.declared.row.Row.{Row}
 use Rattle.p2p_log_rules.specs.Connections.{is_end, live_half, ends_connection}
 use Rattle.p2p_log_rules.specs.Effect.{row, effect}
-use Rattle.p2p_log_rules.specs.Tracking.{steps_tracker}
+use Rattle.p2p_log_rules.proofs.Steps.{steps_tracker}
 use Rattle.p2p_log_rules.proofs.Connections.{half_act, end_of}
 use Rattle.p2p_log_laws.proofs.EndShape.{is_named, all_released}
 use Rattle.p2p_log_laws.proofs.HalfSteps.{IsStep, send_is, receive_is}

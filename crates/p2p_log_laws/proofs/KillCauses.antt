@@ -21,7 +21,7 @@ use Rattle.p2p_log.specs.Lines.{name_of, line}
 use Rattle.p2p_log_rules.specs.Effect.{effect}
 use Rattle.p2p_log_rules.specs.Facts.{item_named, taken}
 use Rattle.p2p_log_rules.specs.Lawful.{IsLawful}
-use Rattle.p2p_log_rules.specs.Tracking.{key_cmp, rules_at, asked_by, steps_tracker, grants_peer, calls_of}
+use Rattle.p2p_log_rules.specs.Tracking.{key_cmp, rules_at, asked_by, grants_peer, calls_of}
 use Rattle.p2p_log_rules.proofs.Calls.{item_calls, step_calls, calls_of-append}
 use Rattle.p2p_log_rules.proofs.Moves.{first_has}
 use Rattle.p2p_log_laws.specs.KilledSince.{has_cause, IsKilledSince, EachKillHasItsCause}
@@ -34,6 +34,7 @@ use Rattle.p2p_log_laws.proofs.KillKnown.{IsMade, known, word_made}
 use Rattle.p2p_log_laws.proofs.Prefixes.{entry_due}
 use Rattle.p2p_log_laws.proofs.Puts.{IsPut, each_put}
 use Rattle.p2p_log_laws.proofs.Weighing.{named_items}
+use Rattle.p2p_log_rules.proofs.Steps.{steps_tracker}
 
 module _ (configs : List Config) (n : ℕ) (script : List Event) (before : List Entry) (lawful : IsLawful configs script before) where
   abbrev Met : ℕ → List (Call Key) → Type 0

@@ -46,7 +46,7 @@ use Rattle.p2p_log_rules.specs.Lawful.{IsLawful}
 use Rattle.p2p_log_rules.specs.Rows.{only}
 use Rattle.p2p_log_rules.specs.Spawning.{Spawned, connections_of}
 use Rattle.p2p_log_rules.specs.Told.{told}
-use Rattle.p2p_log_rules.specs.Tracking.{key_cmp, rules_at, asked_by, steps_tracker, grants_peer, calls_of, update_subscriptions, blocked_subscriptions}
+use Rattle.p2p_log_rules.specs.Tracking.{key_cmp, rules_at, asked_by, grants_peer, calls_of, update_subscriptions, blocked_subscriptions}
 use Rattle.p2p_log_rules.specs.TrackerPuts as puts
 use Rattle.p2p_log_rules.specs.TrackerPuts.{Put}
 use Rattle.p2p_log_rules.specs.TrackerRows as rows
@@ -61,6 +61,7 @@ use Rattle.p2p_log_laws.proofs.Prefixes.{lawful_at_end}
 use Rattle.p2p_log_laws.proofs.TrackerMoves.{served_moves, unblocked_moves}
 use Rattle.p2p_log_laws.proofs.Weighing.{taken_items}
 use Rattle.p2p_log_laws.proofs.Words.{IsWord, IsOf, word_of}
+use Rattle.p2p_log_rules.proofs.Steps.{steps_tracker}
 
 -- ---- keys, and blocks that have ended
 

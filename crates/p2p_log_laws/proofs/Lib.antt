@@ -57,6 +57,7 @@ pub mod Flow
 pub mod Following
 pub mod FrameLaw
 pub mod GoingOn
+pub mod Granting
 pub mod HandedSides
 pub mod Halves
 pub mod HalfSteps

@@ -1,5 +1,6 @@
 -- What each act does to the grants of a key at a node: who holds them before and after it, and what it makes of the calls.
 use Rattle.std.proofs.Common.{◌≡◌, ℕ, Bool, true, false, cond, List, [], ◌∷◌, ◌++◌, map, take, length, Option, Some, None, refl, ap, sym, subst, ◌∙◌, arith, eq-eqb, eqb-true}
+use Rattle.std.proofs.lemmas.Bool.{false≢true}
 use Rattle.std.specs.Prelude.{◌==◌, ◌&&◌, ◌||◌, flat_map, nat_lt}
 use Rattle.std.specs.List.{AllByRecursion as Each, list_any}
 use Rattle.std.specs.Option.{option_map}
@@ -27,7 +28,8 @@ use Rattle.p2p_log_rules.specs.declared.row.Row.{Row}
 use Rattle.p2p_log_rules.specs.Attempting.{Attempt, DialRules, dial_rules_at, attempts_of, attempt_turn, attempt_by, attempt_row, resolve_row, refuse_row, connect_row}
 use Rattle.p2p_log_rules.proofs.Connections.{EndsNone, ends_half, ends_untold}
 use Rattle.p2p_log_rules.specs.Tellings.{Telling, last_or}
-use Rattle.p2p_log_rules.specs.Told.{asks_list, took_tells, told}
+use Rattle.p2p_log_rules.specs.Told.{asks_list, took_tells, tells, told}
+use Rattle.p2p_log_rules.specs.Tracked.{called_tells}
 use Rattle.p2p_log_rules.proofs.Attempts.{attempt_told, attempts_by, attempts_of-append}
 use Rattle.p2p_log_rules.proofs.AttemptTellings.{attempts_of-act, tries, none_tried, attempts_of-others, attempts_of-kept, attempts_of-new, attempts_of-old, attempts_of-stepped}
 use Rattle.p2p_log_rules.proofs.Families.{kinds_of, are_apart}
@@ -41,18 +43,19 @@ use Rattle.p2p_log_rules.specs.Listening.{listener_row}
 use Rattle.p2p_log_rules.specs.Connections.{half_at, is_ended}
 use Rattle.p2p_log_rules.specs.Dropping.{dialing_end, arriving_end, attempt_step_row, handshake_step_row}
 use Rattle.p2p_log_rules.specs.Puts.{gave_up, ends_attempt, broke_off, turns_away}
-use Rattle.p2p_log_rules.specs.Effect.{entry_of, row, send_step_row, recv_step_row}
+use Rattle.p2p_log_rules.specs.Effect.{effect, entry_of, row, send_step_row, recv_step_row}
 use Rattle.p2p_log_rules.specs.Facts.{item_named, taken}
 use Rattle.p2p_log_rules.specs.Moves.{Moves}
 use Rattle.p2p_log_rules.specs.Rows.{only, is_spawner_full}
-use Rattle.p2p_log_rules.specs.Spawning.{steps_spawner, spawned_of, spawner_row}
-use Rattle.p2p_log_rules.specs.Tracking.{key_cmp, rules_at, asked_by, steps_tracker, grants_peer, calls_of}
+use Rattle.p2p_log_rules.specs.Spawning.{spawned_of, spawner_row}
+use Rattle.p2p_log_rules.specs.Tracking.{key_cmp, rules_at, asked_by, grants_peer, calls_of}
 use Rattle.p2p_log_rules.proofs.Calls.{step_calls}
 use Rattle.p2p_log_rules.specs.TrackerRows as rows
 use Rattle.p2p_log_rules.proofs.Touches.{is_told_to}
 use Rattle.p2p_log_laws.proofs.Reaching.{in_connection, reads, ends_in}
 use Rattle.p2p_log_laws.specs.Grants.{one, Granting, held_after}
-use Rattle.p2p_log_laws.specs.NodeGrants.{releases_key, is_attempt_of, is_connection_of, puts_grant, granting}
+use Rattle.p2p_log_laws.specs.NodeGrants.{is_attempt_of, is_connection_of, puts_grant, tells_grant, tells_release, granting}
+use Rattle.p2p_log_laws.proofs.Granting.{grants_of, releases_of, grants_elsewhere}
 use Rattle.p2p_log_laws.proofs.AttemptGrants.{Ends, attempt_ends}
 use Rattle.p2p_log_laws.proofs.AttemptHolds.{took_holds, bounded_holds, holds_kept, holds_begun, holds_changed}
 use Rattle.p2p_log_laws.proofs.ConnectionHolds.{connections_kept, connections_made}
@@ -74,6 +77,7 @@ use Rattle.p2p_log_laws.proofs.TrackerGrants.{Step, tracker_steps}
 use Rattle.p2p_log_laws.proofs.Weighing.{taken_items}
 use Rattle.p2p_log_laws.proofs.Weighs as weighs
 use Rattle.p2p_log_laws.proofs.Weighs.{other_way}
+use Rattle.p2p_log_rules.proofs.Steps.{steps_tracker, steps_spawner}
 
 -- a test that fails for each of these queues as it is written
 nowhere : (n : ℕ) → Away n (λ q. false)
@@ -178,15 +182,21 @@ module _ (configs : List Config) (n : ℕ) (key : Key) (log : List Entry) where
     here = eq-eqb n n refl
 
     tracker_weighs : Weighs (event at seed (act.Tracker n)) (rows.tracker_row configs log n at)
+    unfolding tells
     tracker_weighs =
         let r : Row = rows.tracker_row configs log n at in
         let jitter : ℕ = jitter_of (rules_at configs n).cooldown seed in
-        let step : Step n key (rules_at configs n) log at jitter calls r = tracker_steps n key configs log at jitter in
+        let step : Step n key (rules_at configs n) log at seed jitter calls r = tracker_steps n key configs log at seed jitter in
         let m : Moves log r = step.moves in
         let e : Entry = entry_of (event at seed (act.Tracker n)) r in
         let items : taken log e ≡ map (λ x. x.item) m.taken = taken_items log (event at seed (act.Tracker n)) r m in
-        let grants : g.grants log e ≡ step.turned.grants = ap (λ b. b && list_any (puts_grant n key) r.puts) here ∙ step.turned.granted in
-        let frees : g.frees log e ≡ step.frees = ap (λ b. b && list_any (releases_key key) (taken log e)) here ∙ (ap (list_any (releases_key key)) items ∙ step.freed) in
+        let called : List Item → List Telling = λ l. called_tells log n at seed (list_any grants_peer r.puts) r.reply l in
+        let grants : g.grants log e ≡ step.turned.grants =
+        grants_of n key log at seed r.reply (taken log e) r.puts ∙ (ap (λ l. list_any (tells_grant n key) (called l)) items ∙ step.turned.says)
+        in
+        let frees : g.frees log e ≡ step.frees =
+        releases_of n key log at seed r.reply (taken log e) r.puts ∙ (ap (λ l. list_any (tells_release n key) (called l)) items ∙ step.says)
+        in
         let held = holds_kept configs n key log e (untried (act.Tracker n) r refl) in
         let connected = connections_kept n key log e refl (λ k. ends_untold log e n k (act.Tracker n) refl refl) in
         let granted : one (g.grants log e) ≡ one step.turned.grants = ap one grants in
@@ -430,3 +440,41 @@ module _ (configs : List Config) (n : ℕ) (key : Key) (log : List Entry) where
     each_weighs fitting first unended a =
         weighs.other configs n key log at seed a (row configs log at seed a) (row_shape configs log at seed a) (record { dialer = refl; handshakes = λ h. refl; spawner = refl; tracker = refl })
         (record { dialer = refl; handshakes = λ h. refl; spawner = refl; tracker = refl }) refl refl refl (untried a (row configs log at seed a) refl)
+
+abbrev IsGrantPut : List Config → List Entry → Event → ℕ → Key → Act → Type 0
+IsGrantPut configs log ev n key a =
+    (granting configs n key).grants log (entry_of ev (row configs log ev.at ev.seed ev.act)) ≡ true → list_any (puts_grant n key) (row configs log ev.at ev.seed a).puts ≡ true
+
+-- what is told to be granted is put
+pub granted_is_put : (configs : List Config) (log : List Entry) (ev : Event) (n : ℕ) (key : Key) → (granting configs n key).grants log (effect configs log ev) ≡ true
+    → list_any (puts_grant n key) (effect configs log ev).puts ≡ true
+unfolding effect row tells
+granted_is_put configs log ev n key = by ev.act refl
+  where
+    at_tracker : (m : ℕ) → ev.act ≡ act.Tracker m → (m == n) ≡ true → IsGrantPut configs log ev n key (act.Tracker m)
+    at_tracker m is same h =
+        let at_n : ev.act ≡ act.Tracker n = is ∙ ap act.Tracker (eqb-true m n same) in
+        let r : Row = rows.tracker_row configs log n ev.at in
+        let now : Event = event configs n key log ev.at ev.seed (act.Tracker n) in
+        let step : Step n key (rules_at configs n) log ev.at ev.seed (jitter_of (rules_at configs n).cooldown ev.seed) (calls_of configs log n) r =
+        tracker_steps n key configs log ev.at ev.seed (jitter_of (rules_at configs n).cooldown ev.seed)
+        in
+        let said : list_any (tells_grant n key) (tells (told log) log (entry_of now r)) ≡ true =
+        subst (λ a. list_any (tells_grant n key) (tells (told log) log (entry_of (event configs n key log ev.at ev.seed a) (row configs log ev.at ev.seed a))) ≡ true) at_n h
+        in
+        subst (λ i. list_any (puts_grant n key) (rows.tracker_row configs log i ev.at).puts ≡ true) (sym (eqb-true m n same))
+        (step.turned.granted
+        ∙ (sym (grants_of n key log ev.at ev.seed r.reply (taken log (entry_of now r)) r.puts
+        ∙ (ap (λ l. list_any (tells_grant n key) (called_tells log n ev.at ev.seed (list_any grants_peer r.puts) r.reply l)) (taken_items log now r step.moves) ∙ step.turned.says))
+        ∙ said))
+
+    elsewhere : steps_tracker n ev.act ≡ false → IsGrantPut configs log ev n key ev.act
+    elsewhere other h = absurd (false≢true (sym (grants_elsewhere n key log (entry_of ev (row configs log ev.at ev.seed ev.act)) other) ∙ h))
+
+    by : (a : Act) → ev.act ≡ a → IsGrantPut configs log ev n key ev.act
+    by (act.Tracker m) is = steps (m == n) refl
+      where
+        steps : (b : Bool) → (m == n) ≡ b → IsGrantPut configs log ev n key ev.act
+        steps true same = subst (IsGrantPut configs log ev n key) (sym is) (at_tracker m is same)
+        steps false differ = elsewhere (ap (steps_tracker n) is ∙ differ)
+    by a is = elsewhere (ap (steps_tracker n) is)

@@ -1,8 +1,8 @@
 -- The release of a grant is put by the entry in which its holder ends.
-use Rattle.std.proofs.Common.{◌≡◌, ℕ, ◌+◌, ◌≤◌, Bool, true, false, cond, List, [], ◌∷◌, ◌++◌, length, take, Some, ◌⊎◌, inl, inr, ap, sym, ◌∙◌, refl, arith}
+use Rattle.std.proofs.Common.{◌≡◌, ℕ, ◌+◌, ◌≤◌, Bool, true, false, cond, List, [], ◌∷◌, ◌++◌, length, take, Some, ◌⊎◌, inl, inr, ap, sym, subst, ◌∙◌, refl, arith}
 use Rattle.std.specs.Prelude.{◌&&◌, ◌||◌, count_by, filter, slice_get}
 use Rattle.std.specs.List.{list_any}
-use Rattle.std.proofs.lemmas.Bool.{and_parts, false≢true}
+use Rattle.std.proofs.lemmas.Bool.{false≢true}
 use Rattle.std.proofs.lemmas.List.Sums.{sum_by-append, sum_by-cons}
 use Rattle.p2p_base.specs.declared.key.Key.{Key}
 use Rattle.p2p_log.specs.declared.config.Config.{Config}
@@ -10,14 +10,16 @@ use Rattle.p2p_log.specs.declared.entry.Entry.{Entry}
 use Rattle.p2p_log.specs.declared.event.Event.{Event}
 use Rattle.p2p_log.specs.Lines.{goes, stays, live, placed}
 use Rattle.p2p_log.proofs.Lines.{live-append}
+use Rattle.p2p_log_rules.specs.Effect.{effect}
 use Rattle.p2p_log_rules.specs.Lawful.{IsLawful}
-use Rattle.p2p_log_rules.specs.Tracking.{steps_tracker}
 use Rattle.p2p_log_laws.specs.Grants.{one, Granting, is_held, is_stopped, Hands, Halts}
 use Rattle.p2p_log_laws.specs.NodeGrants.{put_of, puts_grant, beginners_of, holders_of, granting}
 use Rattle.p2p_log_laws.specs.Releasing.{EndsItsHolder, IsReleasedAsItEnds, EachIsReleasedAsItEnds}
 use Rattle.p2p_log_laws.proofs.NodeGrants.{each_node_turn}
 use Rattle.p2p_log_laws.proofs.Turns.{one_holder_at}
 use Rattle.p2p_log_laws.proofs.Weighing.{weight, weight-placed}
+use Rattle.p2p_log_laws.proofs.NodeWeighs.{granted_is_put}
+use Rattle.p2p_log_laws.proofs.Prefixes.{entry_due}
 
 -- what passes is counted
 counted : {X : Type 0} (p : X → Bool) (xs : List X) → list_any p xs ≡ true → 1 ≤ count_by p xs
@@ -34,7 +36,10 @@ counted p (x ∷ xs) any = by (p x) refl any (counted p xs)
     by true is h later = more (cond (p x) 1 0) (count_by p xs) (count_by p (x ∷ xs)) (sum_by-cons (λ y. cond (p y) 1 0) x xs) (ap (λ b. cond b 1 0) is)
     by false is h later = rest (cond (p x) 1 0) (count_by p xs) (count_by p (x ∷ xs)) (sum_by-cons (λ y. cond (p y) 1 0) x xs) (later h)
 
-module _ (configs : List Config) (n : ℕ) (key : Key) (before : List Entry) (e : Entry) where
+module _ (configs : List Config) (n : ℕ) (key : Key) (before : List Entry) (ev : Event) where
+  abbrev e : Entry
+  e = effect configs before ev
+
   abbrev g : Granting
   g = granting configs n key
 
@@ -42,7 +47,7 @@ module _ (configs : List Config) (n : ℕ) (key : Key) (before : List Entry) (e 
   granted_holds : g.grants before e ≡ true → 1 ≤ holders_of n key configs (before ++ e ∷ [])
   granted_holds grants =
       let kept = filter (stays (goes e)) (live before) in
-      let put : 1 ≤ count_by (puts_grant n key) e.puts = counted (puts_grant n key) e.puts (and_parts (steps_tracker n e.event.act) (list_any (puts_grant n key) e.puts) grants).1 in
+      let put : 1 ≤ count_by (puts_grant n key) e.puts = counted (puts_grant n key) e.puts (granted_is_put configs before ev n key grants) in
       let stands : weight (puts_grant n key) (live (before ++ e ∷ [])) ≡ weight (puts_grant n key) kept + count_by (puts_grant n key) e.puts =
       ap (λ xs. weight (puts_grant n key) xs) (live-append before e)
       ∙ (sum_by-append (λ x. cond (puts_grant n key (put_of x)) 1 0) kept (placed (length before) 0 e.puts)
@@ -81,16 +86,17 @@ module _ (configs : List Config) (script : List Event) (log : List Entry) (lawfu
   each_is_released_as_it_ends k n key e here =
       let g : Granting = granting configs n key in
       let before : List Entry = take k log in
+      let due = entry_due configs script log lawful k e here in
       let turns = each_node_turn configs script log lawful n key in
       let hands : Hands g before e = by_hands n key e (take k log) (turns.each k e here).hands in
       let holds = one_holder_at g log turns k in
       record {
         ended = λ ends.
-            ended configs n key before e (g.grants before e) (is_stopped g before) (is_held g before) (g.holders before) (g.waiting before) (g.holders (before ++ e ∷ [])) (g.released before e)
+            ended configs n key before due.0 (g.grants before e) (is_stopped g before) (is_held g before) (g.holders before) (g.waiting before) (g.holders (before ++ e ∷ [])) (g.released before e)
             hands.holding hands.free holds ends.0 ends.1;
         alone = λ put.
-            alone configs n key before e (g.grants before e) (is_stopped g before) (is_held g before) (g.holders before) (g.waiting before) (g.holders (before ++ e ∷ [])) (g.released before e)
-            hands.holding (granted_holds configs n key before e) hands.free holds put;
+            alone configs n key before due.0 (g.grants before e) (is_stopped g before) (is_held g before) (g.holders before) (g.waiting before) (g.holders (before ++ e ∷ [])) (g.released before e)
+            hands.holding (subst (λ d. (granting configs n key).grants before d ≡ true → 1 ≤ holders_of n key configs (before ++ d ∷ [])) (sym due.1) (granted_holds configs n key before due.0)) hands.free holds put;
       }
     where
       by_hands : (n : ℕ) (key : Key) (e : Entry) (before : List Entry) → Hands (granting configs n key) before e ⊎ Halts (granting configs n key) before e → Hands (granting configs n key) before e

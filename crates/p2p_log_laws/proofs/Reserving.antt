@@ -25,7 +25,6 @@ use Rattle.p2p_log_rules.specs.Connections.{is_end, begins as begins_connection,
 use Rattle.p2p_log_rules.specs.Effect.{effect, begin_row, row, send_step_row}
 use Rattle.p2p_log_rules.specs.Lawful.{IsLawful}
 use Rattle.p2p_log_rules.specs.Spawning.{Spawned, connections_of}
-use Rattle.p2p_log_rules.specs.Tracking.{steps_tracker}
 use Rattle.p2p_log_rules.proofs.Connections.{ends_half, is_begun-append, is_ended-kept, is_live}
 use Rattle.p2p_log_rules.proofs.Moves.{one_taken}
 use Rattle.p2p_log_rules.proofs.Spawning.{connections_of-longer}
@@ -40,6 +39,7 @@ use Rattle.p2p_log_laws.proofs.Shape.{Origin, Moved-origins}
 use Rattle.p2p_log_laws.proofs.Turns.{one_holder}
 use Rattle.p2p_log_laws.proofs.Words as words
 use Rattle.p2p_log_laws.proofs.Words.{count_has, get_has, placed_has, waits, is_linked, holds, IsWord, IsCurrent, Reserved, IsOf, reserved_first}
+use Rattle.p2p_log_rules.proofs.Steps.{steps_tracker}
 
 -- a connection that is known is one that has not ended
 record IsLive (n : ℕ) (log : List Entry) (conn : ℕ) (key : Key) : Type 0 where

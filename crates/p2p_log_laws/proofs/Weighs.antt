@@ -25,6 +25,7 @@ use Rattle.p2p_log.proofs.Queues.{same_queue-refl}
 use Rattle.p2p_log_rules.specs.declared.row.Half.{Half}
 use Rattle.p2p_log_rules.specs.declared.row.Row.{Row}
 use Rattle.p2p_log_rules.specs.Attempting.{Attempt, dial_rules_at, attempts_of}
+use Rattle.p2p_log_rules.specs.Tellings.{Telling}
 use Rattle.p2p_log_rules.specs.Told.{act_tells, tells, told}
 use Rattle.p2p_log_rules.proofs.Attempts.{attempt_told, attempts_by}
 use Rattle.p2p_log_rules.specs.Connections.{is_end, is_over, ends_connection, is_ended, live_connection, live_half}
@@ -35,12 +36,13 @@ use Rattle.p2p_log_rules.proofs.Connections.{EndsNone, ends_untold, is_ended-app
 use Rattle.p2p_log_rules.proofs.Spawning.{connections_of-acted}
 use Rattle.p2p_log_rules.specs.Facts.{taken, with_begun}
 use Rattle.p2p_log_rules.specs.Moves.{Moves}
-use Rattle.p2p_log_rules.specs.Spawning.{steps_spawner, spawned_of, connections_of}
-use Rattle.p2p_log_rules.specs.Tracking.{key_cmp, rules_at, steps_tracker, grants_peer, calls_of}
+use Rattle.p2p_log_rules.specs.Spawning.{spawned_of, connections_of}
+use Rattle.p2p_log_rules.specs.Tracking.{key_cmp, rules_at, grants_peer, calls_of}
 use Rattle.p2p_log_rules.proofs.Calls.{step_calls, calls_by}
 use Rattle.p2p_log_laws.proofs.Reaching.{reads, writes}
 use Rattle.p2p_log_laws.specs.Grants.{one, Granting, turn_by, held_after}
-use Rattle.p2p_log_laws.specs.NodeGrants.{count_below, releases_key, is_attempt_of, is_connection_of, beginners_of, puts_grant, puts_release, granting}
+use Rattle.p2p_log_laws.specs.NodeGrants.{count_below, is_attempt_of, is_connection_of, beginners_of, puts_grant, puts_release, tells_grant, tells_release, granting}
+use Rattle.p2p_log_laws.proofs.Granting.{grants_elsewhere, frees_elsewhere}
 use Rattle.p2p_log_laws.proofs.AttemptHolds.{held_by_attempts, holds_kept}
 use Rattle.p2p_log_laws.proofs.ConnectionHolds.{held_by_connections, live_early, live_holds, connections_kept, connections_over}
 use Rattle.p2p_log_laws.proofs.CountBelow.{none_below, count_below-same, count_below-more}
@@ -50,6 +52,7 @@ use Rattle.p2p_log_laws.proofs.Shape.{Shape}
 use Rattle.p2p_log_laws.proofs.Dropped.{taken_same, ended_more, flying_none, taken-dropping}
 use Rattle.p2p_log_laws.proofs.HalfSteps.{released, IsStep}
 use Rattle.p2p_log_laws.proofs.Weighing.{weight, count_by-one}
+use Rattle.p2p_log_rules.proofs.Steps.{steps_tracker, steps_spawner}
 
 pub other_way : (m n : ℕ) → (m == n) ≡ false → (n == m) ≡ false
 other_way m n h = grind (arith, nat_tests)
@@ -111,10 +114,10 @@ module _ (configs : List Config) (n : ℕ) (key : Key) (log : List Entry) where
     e = entry_of ev r
 
     no_grant : g.grants log e ≡ false
-    no_grant = ap (λ b. b && list_any (puts_grant n key) r.puts) still
+    no_grant = grants_elsewhere n key log e still
 
-    no_free : g.frees log e ≡ false
-    no_free = ap (λ b. b && list_any (releases_key key) (taken log e)) still
+    pub no_free : g.frees log e ≡ false
+    no_free = frees_elsewhere n key log e still
 
     abbrev stepped : List (Call Key)
     stepped = step_calls log r.reply (taken log e) ev.at (jitter_of (rules_at configs n).cooldown ev.seed) (list_any grants_peer r.puts) calls
@@ -283,6 +286,7 @@ module _ (configs : List Config) (n : ℕ) (key : Key) (log : List Entry) where
         sums is also = omega (arith, is, also)
 
     pub dropped_weighs : (ev : Event) (r : Row) (o : Option LinkEnd) → Weighs ev r → Moves log (dropping log o r) → Weighs ev (dropping log o r)
+    unfolding tells
     dropped_weighs ev r None h d = h
     dropped_weighs ev r (Some cut) h d =
         let s : Row = dropping log (Some cut) r in
@@ -296,19 +300,26 @@ module _ (configs : List Config) (n : ℕ) (key : Key) (log : List Entry) where
         let releases_ended = ended_more log r (Some cut) h.moves d (puts_release n key) in
         let no_grant = flying_none log (Some cut) (puts_grant n key) (λ e i. refl) in
         let no_release = flying_none log (Some cut) (puts_release n key) (λ e i. no_link e.0 (other_side e.1) i) in
-        let frees : g.frees log (entry_of ev s) ≡ g.frees log (entry_of ev r) = ap (λ items. steps_tracker n ev.act && list_any (releases_key key) items) took in
+        let says : (test : Telling → Bool) → list_any test (tells (told log) log (entry_of ev s)) ≡ list_any test (tells (told log) log (entry_of ev r)) =
+        λ test. ap (λ items. list_any test (act_tells (told log) log (length log) ev.at ev.seed r.reply items r.puts ev.act)) took
+        in
+        let grants : g.grants log (entry_of ev s) ≡ g.grants log (entry_of ev r) = says (tells_grant n key) in
+        let frees : g.frees log (entry_of ev s) ≡ g.frees log (entry_of ev r) = says (tells_release n key) in
+        let granted : one (g.grants log (entry_of ev s)) ≡ one (g.grants log (entry_of ev r)) = ap one grants in
         let freed : one (g.frees log (entry_of ev s)) ≡ one (g.frees log (entry_of ev r)) = ap one frees in
         record {
           moves = d;
-          holding = omega (arith, holding, same, grants_taken, grants_ended, no_grant);
+          holding = omega (arith, holding, same, grants_taken, grants_ended, no_grant, granted);
           waiting = omega (arith, waiting, releases_taken, releases_ended, no_release, freed);
           turn =
               ap (λ items. is_held key_cmp
               (cond (steps_tracker n ev.act) (step_calls log r.reply items ev.at (jitter_of (rules_at configs n).cooldown ev.seed) (list_any grants_peer r.puts) calls) calls) key) took
-              ∙ (h.turn ∙ ap (λ b. held_after (is_held key_cmp calls key) (cond (g.grants log (entry_of ev r)) (true ∷ []) (cond b (false ∷ []) []))) (sym frees));
-          free = h.free;
-          others = h.others;
-          apart = λ granted. frees ∙ h.apart granted;
+              ∙ (h.turn
+              ∙ (ap (λ b. held_after (is_held key_cmp calls key) (cond (g.grants log (entry_of ev r)) (true ∷ []) (cond b (false ∷ []) []))) (sym frees)
+              ∙ ap (λ b. held_after (is_held key_cmp calls key) (cond b (true ∷ []) (cond (g.frees log (entry_of ev s)) (false ∷ []) []))) (sym grants)));
+          free = λ now. h.free (sym grants ∙ now);
+          others = λ now. h.others (sym grants ∙ now);
+          apart = λ now. frees ∙ h.apart (sym grants ∙ now);
         }
       where
         no_link : (link : ℕ) (side : Side) (i : Item) → puts_release n key (queue.Link link side, i) ≡ false

@@ -34,13 +34,14 @@ use Rattle.p2p_log_rules.specs.Lawful.{IsLawful}
 use Rattle.p2p_log_rules.specs.Moves.{Moves}
 use Rattle.p2p_log_rules.specs.Spawning.{Spawned, connections_of}
 use Rattle.p2p_log_rules.specs.Told.{told as all_told}
-use Rattle.p2p_log_rules.specs.Tracking.{key_cmp, rules_at, steps_tracker, grants_peer, calls_of}
+use Rattle.p2p_log_rules.specs.Tracking.{key_cmp, rules_at, grants_peer, calls_of}
 use Rattle.p2p_log_rules.proofs.Calls.{step_calls, calls_of-append}
 use Rattle.p2p_log_rules.proofs.Connections.{half_parts, is_live}
 use Rattle.p2p_log_rules.proofs.Lawful.{IsLawful-append}
 use Rattle.p2p_log_rules.proofs.Moves.{taken_stood}
 use Rattle.p2p_log_laws.specs.Grants.{one, Granting, is_held, is_stopped, Hands, IsTurn, turn_by, held_after}
 use Rattle.p2p_log_laws.specs.NodeGrants.{put_of, releases_key, is_connection_of, puts_release, granting}
+use Rattle.p2p_log_laws.proofs.Granting.{frees_elsewhere, release_is_taken}
 use Rattle.p2p_log_laws.proofs.BegunCalls.{tracker_reads}
 use Rattle.p2p_log_laws.proofs.BegunOnce.{told_once}
 use Rattle.p2p_log_laws.proofs.BegunPuts.{tells_begun}
@@ -59,6 +60,7 @@ use Rattle.p2p_log_laws.proofs.Shapes.{row_shape}
 use Rattle.p2p_log_laws.proofs.Telling.{IsConnection, Tells, StandTells}
 use Rattle.p2p_log_laws.proofs.Turns.{one_holder, held_next}
 use Rattle.p2p_log_laws.proofs.Weighing.{taken_items}
+use Rattle.p2p_log_rules.proofs.Steps.{steps_tracker}
 
 -- ---- lists
 
@@ -282,7 +284,7 @@ module _ (configs : List Config) (n : ℕ) where
         ap (λ b. b && (over.half.peer.0 == c.key.0)) (same_queue-refl (queue.Tracker n)) ∙ eq-eqb over.half.peer.0 c.key.0 (ap (λ (k : Key). k.0) (sym peer))
         in
         waits_now c.key (count_has (puts_release n c.key) r.puts (queue.Tracker n, item.Release over.half.peer) put is)
-        (ap (λ b. b && list_any (releases_key c.key) (taken before e)) over.aside)
+        (frees_elsewhere n c.key before e over.aside)
 
     -- ---- what is taken
 
@@ -311,7 +313,7 @@ module _ (configs : List Config) (n : ℕ) where
         by : (b : Bool) → (granting configs n key).frees before e ≡ b → b ≡ false
         by false is = refl
         by true is =
-            let both = and_parts (steps_tracker n ev.act) (list_any (releases_key key) (taken before e)) is in
+            let both = release_is_taken n key before e is in
             let found = any_item (releases_key key) m.taken (ap (list_any (releases_key key)) (sym (taken_items before ev r m)) ∙ both.1) in
             let y : Envelope = found.0 in
             let also : y.queue ≡ queue.Tracker n = in_mail y both.0 found.1 in

@@ -1,6 +1,5 @@
 -- The grants of a key at a node, read off the log: who holds them, and which releases of them wait.
 use Rattle.std.specs.Prelude.{ℕ, zero, suc, ◌+◌, Bool, false, ◌==◌, ◌&&◌, List, [], length, count_by, Option, Some, None}
-use Rattle.std.specs.List.{list_any}
 use Rattle.p2p_base.specs.declared.key.Key.{Key}
 use Rattle.p2p_log.specs.declared.config.Config.{Config}
 use Rattle.p2p_log.specs.declared.queue.Queue.{Queue}
@@ -11,11 +10,11 @@ use Rattle.p2p_log.specs.declared.item.Envelope.{Envelope}
 use Rattle.p2p_log.specs.declared.entry.Entry.{Entry}
 use Rattle.p2p_log.specs.QueueCode.{same_queue}
 use Rattle.p2p_log.specs.Lines.{live}
-use Rattle.p2p_log_rules.specs.Facts.{taken}
 use Rattle.p2p_log_rules.specs.Attempting.{Attempt, attempts_of}
-use Rattle.p2p_log_rules.specs.Connections.{live_connection}
+use Rattle.p2p_log_rules.specs.Connections.{tells_some, live_connection}
 use Rattle.p2p_log_rules.specs.Spawning.{Spawned}
-use Rattle.p2p_log_rules.specs.Tracking.{steps_tracker}
+use Rattle.p2p_log_rules.specs.Tellings.{Telling}
+use Rattle.p2p_log_rules.specs.Tellings as telling
 use Rattle.p2p_log_laws.specs.Grants.{one, Granting}
 
 -- how many numbers below this one pass
@@ -77,11 +76,22 @@ module _ (n : ℕ) (key : Key) where
   abbrev pub waiting_of : List Entry → ℕ
   waiting_of log = count_by (λ x. puts_release (put_of x)) (live log)
 
+  -- that the tracker granted it, to a dial or to a handshake
+  abbrev pub tells_grant : Telling → Bool
+  tells_grant (telling.dial_weighed m at seed k granted) = (m == n) && ((k.0 == key.0) && granted)
+  tells_grant (telling.listen_weighed m at seed k granted) = (m == n) && ((k.0 == key.0) && granted)
+  tells_grant _ = false
+
+  -- that it took a release of it
+  abbrev pub tells_release : Telling → Bool
+  tells_release (telling.release_heard m k) = (m == n) && (k.0 == key.0)
+  tells_release _ = false
+
 -- of a key at a node: the tracker grants it and takes its releases, and nothing stops the node yet
 abbrev pub granting : List Config → ℕ → Key → Granting
 granting configs n key = record {
-  grants = λ before e. steps_tracker n e.event.act && list_any (puts_grant n key) e.puts;
-  frees = λ before e. steps_tracker n e.event.act && list_any (releases_key key) (taken before e);
+  grants = λ before e. tells_some (tells_grant n key) before e;
+  frees = λ before e. tells_some (tells_release n key) before e;
   stops = λ before e. false;
   holders = holders_of n key configs;
   waiting = waiting_of n key;

@@ -26,11 +26,12 @@ use Rattle.p2p_log_rules.specs.Tellings.{Telling}
 use Rattle.p2p_log_rules.specs.Tellings as telling
 use Rattle.p2p_log_rules.specs.Told.{tells, told}
 use Rattle.p2p_log_rules.specs.Tracked.{asked_by, question_of, grants_peer, asked_tells, served_tells, called_tells, wanted_tells, subscriber_tells, tracker_tells}
-use Rattle.p2p_log_rules.specs.Tracking.{rules_at, steps_tracker, called, calls_of, wants_sets, update_subscriptions, wants_blocks, blocked_subscriptions}
+use Rattle.p2p_log_rules.specs.Tracking.{rules_at, called, calls_of, wants_sets, update_subscriptions, wants_blocks, blocked_subscriptions}
 use Rattle.p2p_log_rules.proofs.Acted.{tells_as, nothing_of, collected-append}
 use Rattle.p2p_log_rules.proofs.Families.{kind, kinds_of, has, are_apart}
 use Rattle.p2p_log_rules.proofs.Ignoring.{flat_map-none}
 use Rattle.p2p_log_rules.proofs.Tellings.{told-append}
+use Rattle.p2p_log_rules.proofs.Steps.{steps_tracker}
 
 -- ---- what an entry adds to the calls, the newest first
 

@@ -61,6 +61,7 @@ kind (telling.sends_admitted m c at keys) = 43
 kind (telling.check_made m k c keys) = 44
 kind (telling.check_spent k) = 45
 kind (telling.reader_dropped m c) = 46
+kind (telling.question_answered e) = 74
 kind (telling.update_taken m addresses) = 47
 kind (telling.arrival_judged m at from g) = 48
 
@@ -85,6 +86,7 @@ kinds_of (act.Resolve addresses k m) = 8 ∷ []
 kinds_of (act.Connect k from m to) = 9 ∷ 10 ∷ []
 kinds_of (act.Refuse k m) = 9 ∷ []
 kinds_of (act.Finish link ok) = 21 ∷ []
+kinds_of (act.Answer question) = 74 ∷ []
 kinds_of _ = []
 
 abbrev pub has : List ℕ → ℕ → Bool
@@ -125,6 +127,7 @@ within name at (act.Resolve addresses e m) = refl
 within name at (act.Connect e from m to) = (refl, refl)
 within name at (act.Refuse e m) = refl
 within name at (act.Finish link ok) = refl
+within name at (act.Answer question) = refl
 within name at _ = tt
 
 is_not : (b : Bool) → not b ≡ false → b ≡ true

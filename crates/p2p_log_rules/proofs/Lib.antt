@@ -1,4 +1,5 @@
 pub mod Acted
+pub mod Answers
 pub mod AttemptTellings
 pub mod Attempts
 pub mod Bools
@@ -34,6 +35,7 @@ pub mod Routing
 pub mod Sends
 pub mod Spawning
 pub mod Standing
+pub mod Steps
 pub mod TakenAt
 pub mod Taking
 pub mod Tellings

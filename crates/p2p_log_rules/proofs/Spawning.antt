@@ -8,7 +8,7 @@ use Rattle.p2p_log.specs.declared.event.Act.{Act}
 use Rattle.p2p_log.specs.declared.event.Act.TheVariants as act
 use Rattle.p2p_log_rules.specs.Facts.{taken, with_begun}
 use Rattle.p2p_log_rules.specs.Halves.{makes_connection, connection_in}
-use Rattle.p2p_log_rules.specs.Spawning.{Spawned, steps_spawner, spawned_of, connections_of}
+use Rattle.p2p_log_rules.specs.Spawning.{Spawned, spawned_of, connections_of}
 use Rattle.p2p_log_rules.specs.Tellings.{Telling, last_or}
 use Rattle.p2p_log_rules.specs.Tellings as telling
 use Rattle.p2p_log_rules.specs.Told.{spawn_tells, act_tells, tells, told}
@@ -17,6 +17,7 @@ use Rattle.p2p_log_rules.proofs.Tellings.{late_told, or_left, or_right, told-app
 use Rattle.p2p_log.specs.declared.item.Item.TheVariants as item
 use Rattle.std.specs.List.{list_any}
 use Rattle.p2p_log_rules.proofs.Named.{either_none, begun_none}
+use Rattle.p2p_log_rules.proofs.Steps.{steps_spawner}
 
 -- after an act of this name, which took these
 abbrev pub acted_connections : ℕ → ℕ → List Item → Act → (ℕ → Option Spawned) → ℕ → Option Spawned

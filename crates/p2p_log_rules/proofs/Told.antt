@@ -22,7 +22,7 @@ use Rattle.p2p_log_rules.specs.declared.row.Half.{Half}
 use Rattle.p2p_log_rules.specs.HalfSteps.{is_end, puts_ping, holds}
 use Rattle.p2p_log_rules.specs.Halves.{half_in}
 use Rattle.p2p_log_rules.specs.HandshakeSteps.{ends_handshake, peer_at}
-use Rattle.p2p_log_rules.specs.Puts.{gave_up, ends_attempt, broke_off, is_answer, turns_away, arrival_link}
+use Rattle.p2p_log_rules.specs.Puts.{gave_up, ends_attempt, broke_off, is_answer, turns_away, is_peer_set, arrival_link}
 use Rattle.p2p_log_rules.specs.Tellings.{Telling, last_or}
 use Rattle.p2p_log_rules.specs.Tellings as telling
 use Rattle.p2p_log_rules.specs.Told.{listening_dropped, received_tells, admitted_tells, check_tells, judged_tells, heard_tells, admitted_in, spawn_tells, admitted_as, begun_tells, arrival_tells, handshake_tells, sender_tells, over_tells, when, done_tells, asks_list, link_in, dialing_dropped, half_dropped, gates_tell, answer_tells, ask_tells, took_tells, left_tells, link_tells, act_tells}
@@ -97,6 +97,7 @@ module _ (test : Telling → Bool) (name at : ℕ) where
   NoneTold (act.Connect e from m to) = (test (telling.dial_answered m e name) ≡ false) × (test (telling.link_opened m e name to) ≡ false)
   NoneTold (act.Refuse e m) = test (telling.dial_answered m e name) ≡ false
   NoneTold (act.Finish link ok) = test (telling.exchange_ended link) ≡ false
+  NoneTold (act.Answer question) = test (telling.question_answered question) ≡ false
   NoneTold _ = Unit {0}
 
   pub one : (t : Telling) → test t ≡ false → list_any test (t ∷ []) ≡ false
@@ -252,4 +253,5 @@ module _ (test : Telling → Bool) (name at : ℕ) where
   quiet_act ts before seed r items puts (act.Connect e from m to) h = connect_quiet m e to r puts h.0 h.1
   quiet_act ts before seed r items puts (act.Refuse e m) h = done_quiet test r (telling.dial_answered m e name ∷ []) (one (telling.dial_answered m e name) h)
   quiet_act ts before seed r items puts (act.Finish link ok) h = done_quiet test r (telling.exchange_ended link ∷ []) (one (telling.exchange_ended link) h)
+  quiet_act ts before seed r items puts (act.Answer question) h = when_quiet test (is_peer_set r) (telling.question_answered question ∷ []) (one (telling.question_answered question) h)
   quiet_act ts before seed r items puts _ h = refl

@@ -29,6 +29,22 @@ pub record NoneTracked (test : Telling → Bool) (m at : ℕ) : Type 0 where
   pub sets : (e : ℕ) → test (telling.sets_wanted m e) ≡ false
   pub blocks : (e : ℕ) → test (telling.blocks_wanted m e) ≡ false
 
+-- nor who subscribes
+module _ (test : Telling → Bool) (m : ℕ) (sets : (e : ℕ) → test (telling.sets_wanted m e) ≡ false) (blocks : (e : ℕ) → test (telling.blocks_wanted m e) ≡ false) where
+  wanted : (e : ℕ) (o : Option Asked) → list_any test (wanted_tells m e o) ≡ false
+  wanted e (Some ask.Subscribe) = ap (λ b. b || false) (sets e)
+  wanted e (Some ask.Blocked) = ap (λ b. b || false) (blocks e)
+  wanted e _ = refl
+
+  subscriber : (before : List Entry) (i : Item) → list_any test (subscriber_tells before m i) ≡ false
+  subscriber before (item.Call e) = wanted e (question_of (asked_by before e))
+  subscriber before _ = refl
+
+  pub subscribers_quiet : (before : List Entry) (items : List Item) → list_any test (flat_map (subscriber_tells before m) items) ≡ false
+  subscribers_quiet before [] = refl
+  subscribers_quiet before (i ∷ items) =
+      append_quiet test (subscriber_tells before m i) (flat_map (subscriber_tells before m) items) (subscriber before i) (subscribers_quiet before items)
+
 module _ (test : Telling → Bool) (m at : ℕ) (none : NoneTracked test m at) where
   one : (t : Telling) → test t ≡ false → list_any test (t ∷ []) ≡ false
   one t h = ap (λ b. b || false) h
@@ -53,21 +69,7 @@ module _ (test : Telling → Bool) (m at : ℕ) (none : NoneTracked test m at) w
   called before seed granted reply.Ok (i ∷ items) = served before seed granted i
   called before seed granted _ items = refl
 
-  wanted : (e : ℕ) (o : Option Asked) → list_any test (wanted_tells m e o) ≡ false
-  wanted e (Some ask.Subscribe) = one (telling.sets_wanted m e) (none.sets e)
-  wanted e (Some ask.Blocked) = one (telling.blocks_wanted m e) (none.blocks e)
-  wanted e _ = refl
-
-  subscriber : (before : List Entry) (i : Item) → list_any test (subscriber_tells before m i) ≡ false
-  subscriber before (item.Call e) = wanted e (question_of (asked_by before e))
-  subscriber before _ = refl
-
-  all_subscribers : (before : List Entry) (items : List Item) → list_any test (flat_map (subscriber_tells before m) items) ≡ false
-  all_subscribers before [] = refl
-  all_subscribers before (i ∷ items) =
-      append_quiet test (subscriber_tells before m i) (flat_map (subscriber_tells before m) items) (subscriber before i) (all_subscribers before items)
-
   pub tracker_quiet : (before : List Entry) (seed : ℕ) (r : Reply) (items : List Item) (puts : List (Queue × Item)) → list_any test (tracker_tells before m at seed r items puts) ≡ false
   tracker_quiet before seed r items puts =
       let granted : Bool = list_any grants_peer puts in
-      append_quiet test (called_tells before m at seed granted r items) (flat_map (subscriber_tells before m) items) (called before seed granted r items) (all_subscribers before items)
+      append_quiet test (called_tells before m at seed granted r items) (flat_map (subscriber_tells before m) items) (called before seed granted r items) (subscribers_quiet test m none.sets none.blocks before items)

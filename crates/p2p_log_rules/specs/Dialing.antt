@@ -125,10 +125,6 @@ dials_in pace ts n = record {
 unfoldable pub dials_of : List Config → List Entry → ℕ → Dials
 dials_of configs log n = dials_in (pace_at configs n) (told log) n
 
-abbrev pub steps_dialer : ℕ → Act → Bool
-steps_dialer n (act.Dialer m) = m == n
-steps_dialer n _ = false
-
 -- ---- its step
 
 -- the dial of this key, where there is one

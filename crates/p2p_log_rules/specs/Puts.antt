@@ -35,6 +35,11 @@ turns_away (reply.Gates gates.Admitted) = false
 turns_away (reply.Gates told) = true
 turns_away _ = false
 
+-- whether the answer to a question was taken
+abbrev pub is_peer_set : Reply → Bool
+is_peer_set (reply.PeerSet peers) = true
+is_peer_set _ = false
+
 -- the link over which a peer arrived
 abbrev pub arrival_link : List Item → Option ℕ
 arrival_link (item.Arrival from key link ∷ items) = Some link

@@ -15,10 +15,6 @@ use Rattle.p2p_log_rules.specs.Halves.{connection_in}
 use Rattle.p2p_log_rules.specs.Told.{told}
 use Rattle.p2p_log_rules.specs.Rows.{only, takes_oldest}
 
-abbrev pub steps_spawner : ℕ → Act → Bool
-steps_spawner n (act.Spawner m) = m == n
-steps_spawner n _ = false
-
 -- the connection that is made once these were taken
 abbrev pub spawned_of : List Item → Option Spawned
 spawned_of (item.Spawn key link ∷ items) = Some (record { key = key; link = link })

@@ -99,6 +99,8 @@ pub data Telling : Type 0 where
   check_made : (node check channel : ℕ) (keys : List Key) → Telling
   -- a message was sent by a check of this name
   check_spent : (check : ℕ) → Telling
+  -- the answer to the question of this event was taken
+  question_answered : (event : ℕ) → Telling
   -- the reader of a channel was dropped
   reader_dropped : (node channel : ℕ) → Telling
   -- a node's listener took the addresses that are registered

@@ -20,7 +20,7 @@ use Rattle.p2p_log_rules.specs.declared.row.Half.{Half}
 use Rattle.p2p_log_rules.specs.HalfSteps.{is_done, is_end, puts_ping, holds}
 use Rattle.p2p_log_rules.specs.Halves.{half_in}
 use Rattle.p2p_log_rules.specs.HandshakeSteps.{ends_handshake, peer_at}
-use Rattle.p2p_log_rules.specs.Puts.{gave_up, ends_attempt, broke_off, is_answer, turns_away, arrival_link}
+use Rattle.p2p_log_rules.specs.Puts.{gave_up, ends_attempt, broke_off, is_answer, turns_away, is_peer_set, arrival_link}
 use Rattle.p2p_log_rules.specs.Quotas.{rate_in, rates_in, keys_by, moments_in}
 use Rattle.p2p_log_rules.specs.Taking.{taken, state_from}
 use Rattle.p2p_log_rules.specs.Routed.{router_tells, peers_in}
@@ -198,7 +198,7 @@ module _ (ts : List Telling) (before : List Entry) (name at seed : ℕ) (r : Rep
   act_tells (act.Recv c n) = []
   act_tells (act.Close c n) = done_tells r (telling.reader_dropped n c ∷ [])
   act_tells (act.Ask what n) = []
-  act_tells (act.Answer question) = []
+  act_tells (act.Answer question) = when (is_peer_set r) (telling.question_answered question ∷ [])
   act_tells (act.Next question) = []
   act_tells (act.Tracker n) = tracker_tells before n at seed r items puts
   act_tells (act.Dialer n) = answer_tells n (last_or 0 (asks_list n) ts) name at seed items ++ ask_tells n at items puts

@@ -27,6 +27,9 @@ use Rattle.p2p_log.specs.Lines.{name_of, stays, live, line}
 use Rattle.p2p_log_rules.specs.Connections.{is_ended}
 use Rattle.p2p_log_rules.specs.Facts.{is_up, key_at}
 use Rattle.p2p_log_rules.specs.Rows.{only, mailbox_size_at, ring_ends}
+use Rattle.p2p_log_rules.specs.Tellings.{Telling}
+use Rattle.p2p_log_rules.specs.Tellings as telling
+use Rattle.p2p_log_rules.specs.Told.{told}
 use Rattle.p2p_log_rules.specs.Tracking.{key_cmp, rules_at, asked_by, calls_of, update_subscriptions, blocked_subscriptions}
 use Rattle.p2p_log_rules.specs.TrackerPuts.{Put, is_some_of, unblocked_puts, item_puts, heeded}
 
@@ -101,18 +104,14 @@ tracker_row configs log n at = cond (is_up log n) (tracker_step configs log n at
 
 -- ---- what those who asked take
 
--- whether an entry took the answer to this question
-abbrev pub is_peer_set : Reply → Bool
-is_peer_set (reply.PeerSet peers) = true
-is_peer_set _ = false
+-- that the answer to a question was taken
+abbrev pub answers : ℕ → Telling → Bool
+answers e (telling.question_answered d) = d == e
+answers e _ = false
 
-abbrev pub takes_answer : ℕ → Act → Reply → Bool
-takes_answer e (act.Answer question) r = (question == e) && is_peer_set r
-takes_answer e _ r = false
-
--- whether the answer to a question was taken
+-- whether it was
 unfoldable pub was_answered : List Entry → ℕ → Bool
-was_answered log e = list_any (λ d. takes_answer e d.event.act d.reply) log
+was_answered log e = list_any (answers e) (told log)
 
 abbrev pub taken_row : Reply → Envelope → Row
 taken_row r x = record { reply = r; takes = name_of x ∷ []; puts = []; ends = [] }

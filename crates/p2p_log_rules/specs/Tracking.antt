@@ -34,11 +34,6 @@ no_rules = record { local = record { 0 = 0 }; max_sets = 0; cooldown = 0; block_
 abbrev pub rules_at : List Config → ℕ → Rules Key
 rules_at configs n = elim (slice_get configs n) [ None ↦ no_rules | Some c ↦ rules_of c ]
 
--- whether an act is a step of a node's tracker
-abbrev pub steps_tracker : ℕ → Act → Bool
-steps_tracker n (act.Tracker m) = m == n
-steps_tracker n _ = false
-
 -- ---- the calls of its directory
 
 -- what a telling calls at a node's tracker, whose jitters are below this cooldown: a call, or one for each key in their order

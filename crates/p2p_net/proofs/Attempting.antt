@@ -37,7 +37,6 @@ use Rattle.p2p_log_rules.specs.Connections.{half_at}
 use Rattle.p2p_log_rules.specs.Dropping.{LinkEnd, other_side, dialing_end, arriving_end, half_end}
 use Rattle.p2p_log_rules.specs.Facts.{starts, taken}
 use Rattle.p2p_log_rules.specs.Handshakes.{peer_at}
-use Rattle.p2p_log_rules.specs.Spawning.{steps_spawner}
 use Rattle.p2p_log_rules.proofs.Touches.{reads, writes}
 use Rattle.p2p_log_laws.proofs.Reaching as reaching
 use Rattle.p2p_log_laws.proofs.Untouched.{line-untouched}
@@ -59,6 +58,7 @@ use Rattle.p2p_net.specs.declared.node.Node.{Node}
 use Rattle.p2p_net.proofs.EachPart.{is_in, each_part, not_among}
 use Rattle.p2p_net.proofs.Frames.{links_kept}
 use Rattle.p2p_net.proofs.Performing.{asked, Performs, line-still}
+use Rattle.p2p_log_rules.proofs.Steps.{steps_spawner}
 
 -- the queue of another attempt is another queue
 pub other_attempt : (n name k : ℕ) → (k == name) ≡ false → same_queue (queue.Attempt n name) (queue.Attempt n k) ≡ false

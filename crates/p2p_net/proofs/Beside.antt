@@ -13,9 +13,6 @@ use Rattle.p2p_log.specs.Lines.{line, live, stands_in}
 use Rattle.p2p_log_rules.specs.Connections.{half_at, is_end}
 use Rattle.p2p_log_rules.specs.Dropping.{half_end}
 use Rattle.p2p_log_rules.specs.Facts.{starts, registers_at}
-use Rattle.p2p_log_rules.specs.Spawning.{steps_spawner}
-use Rattle.p2p_log_rules.specs.Tracking.{steps_tracker}
-use Rattle.p2p_log_rules.specs.TrackerRows.{takes_answer}
 use Rattle.p2p_log_rules.proofs.Connections.{begins_act, ends_none-reply}
 use Rattle.p2p_log_rules.proofs.Families.{kinds_of, are_apart}
 use Rattle.p2p_log_rules.proofs.Spawning.{connections_of-unmade}
@@ -33,6 +30,8 @@ use Rattle.p2p_net_tracker.specs.declared.tracker.Tracker.{Tracker}
 use Rattle.p2p_net_tracker.proofs.Changes.{tracker_frame}
 use Rattle.p2p_net.specs.Stands.{RouterStands}
 use Rattle.p2p_net.proofs.Routers.{HearsTheSame, hears_kept, RouterStands-moved}
+use Rattle.p2p_log_rules.proofs.Steps.{steps_tracker, steps_spawner}
+use Rattle.p2p_log_rules.proofs.Answers.{takes_answer}
 
 -- ---- queues
 

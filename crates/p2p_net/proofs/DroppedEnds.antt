@@ -23,7 +23,6 @@ use Rattle.p2p_log.proofs.Taken.{other_left}
 use Rattle.p2p_log_rules.specs.declared.row.Row.{Row}
 use Rattle.p2p_log_rules.specs.Dropping.{LinkEnd, other_side, frames_towards, dropping, drops_of}
 use Rattle.p2p_log_rules.specs.Effect.{row, effect, entry_of}
-use Rattle.p2p_log_rules.specs.Spawning.{steps_spawner}
 use Rattle.p2p_log_rules.proofs.Moves.{all_end-gone}
 use Rattle.p2p_log_laws.proofs.Emptying.{line_gone}
 use Rattle.p2p_net_queues.proofs.Going.{line-append}
@@ -43,6 +42,7 @@ use Rattle.p2p_net.specs.Stands.{PartStands, NodeStands}
 use Rattle.p2p_net.specs.declared.node.Node.{Node}
 use Rattle.p2p_net.proofs.EachPart.{is_in, with_parts, AllOf, each_part}
 use Rattle.p2p_net.proofs.Performing.{Performs}
+use Rattle.p2p_log_rules.proofs.Steps.{steps_spawner}
 
 -- ---- the row
 

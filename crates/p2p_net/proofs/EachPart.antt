@@ -7,7 +7,6 @@ use Rattle.p2p_log.specs.declared.config.Config.{Config}
 use Rattle.p2p_log.specs.declared.entry.Entry.{Entry}
 use Rattle.p2p_log.specs.declared.event.Event.{Event}
 use Rattle.p2p_log_rules.specs.Effect.{effect}
-use Rattle.p2p_log_rules.specs.Spawning.{steps_spawner}
 use Rattle.p2p_net_channels.specs.Stands.{ChannelsStand}
 use Rattle.p2p_net_connections.specs.Stands.{ConnectionsStand}
 use Rattle.p2p_net_tracker.specs.Stands.{TrackerStands}
@@ -19,6 +18,7 @@ use Rattle.p2p_net.specs.Stands.{RouterStands, PartStands, OwnStands, NodeStands
 use Rattle.p2p_net.specs.declared.node.Node.{Node}
 use Rattle.p2p_net.proofs.Touching.{first_false, second_false}
 use Rattle.p2p_net.proofs.Frames.{MakesUnbegun, makes_none, part_frame}
+use Rattle.p2p_log_rules.proofs.Steps.{steps_spawner}
 
 abbrev pub is_in : Part → List Part → Bool
 is_in p [] = false

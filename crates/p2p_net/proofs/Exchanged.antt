@@ -51,7 +51,7 @@ use Rattle.p2p_net_listener.proofs.Changes.{listener_frame, listener_finished}
 use Rattle.p2p_net_listener.proofs.Leaving.{listener_apart, listener_untold}
 use Rattle.p2p_net_listener.proofs.Finishing.{end_accepts, end_finished}
 use Rattle.p2p_net_tracker.specs.Finishing.{finished_put, told_finished}
-use Rattle.p2p_net_tracker.specs.Stands.{is_told, TrackerStands, LeavesTracker}
+use Rattle.p2p_net_tracker.specs.Stands.{is_told, TrackerStands}
 use Rattle.p2p_net_tracker.specs.declared.tracker.Tracker.{Tracker}
 use Rattle.p2p_net_tracker.proofs.Changes.{tracker_frame}
 use Rattle.p2p_net_tracker.proofs.FinishSteps.{tracker_after_finish}
@@ -71,6 +71,7 @@ use Rattle.p2p_net.proofs.Nodes.{slice_get-set, below}
 use Rattle.p2p_net.proofs.Performing.{asked, is_quiet, Simulates, part_still, links_still, effect-still}
 use Rattle.p2p_net.proofs.Readying.{key_is}
 use Rattle.p2p_net.proofs.Touching.{first_false, second_false}
+use Rattle.p2p_net_tracker.proofs.Leaves.{LeavesTracker}
 
 -- ---- what is said of the keys is what the log says
 

@@ -18,12 +18,11 @@ use Rattle.p2p_log.specs.declared.event.Act.TheVariants as act
 use Rattle.p2p_log.specs.Lines.{live, line, stands_in}
 use Rattle.p2p_log_rules.specs.Connections.{is_done, begins, is_begun, ends_connection}
 use Rattle.p2p_log_rules.specs.Facts.{starts, registers_at, with_capacity, taken}
-use Rattle.p2p_log_rules.specs.Spawning.{steps_spawner}
 use Rattle.p2p_log_rules.proofs.Families.{kinds_of, are_apart}
 use Rattle.p2p_log_rules.proofs.Spawning.{connections_of-unmade}
 use Rattle.p2p_log_rules.specs.Effect.{row, effect}
-use Rattle.p2p_log_rules.specs.Tracking.{asked_by, steps_tracker}
-use Rattle.p2p_log_rules.specs.TrackerRows.{takes_answer, is_peer_set as gives_answer, answer_by}
+use Rattle.p2p_log_rules.specs.Tracking.{asked_by}
+use Rattle.p2p_log_rules.specs.TrackerRows.{answer_by}
 use Rattle.p2p_net_tracker.specs.declared.question.Question.{Question}
 use Rattle.p2p_net_tracker.specs.declared.question.Question.TheVariants as question
 use Rattle.p2p_net_tracker.specs.Stands.{kind_of, asks_of, asks_at, is_told}
@@ -60,6 +59,9 @@ use Rattle.p2p_log_rules.proofs.Handshakes.{handshake_kinds, handshakes_of-apart
 use Rattle.p2p_log_rules.proofs.Links.{exchange_kinds}
 use Rattle.p2p_log_rules.proofs.LinkTells.{quiet_told}
 use Rattle.p2p_log_rules.proofs.Routing.{route_kinds}
+use Rattle.p2p_log_rules.proofs.Steps.{steps_tracker, steps_spawner}
+use Rattle.p2p_log_rules.proofs.Answers.{takes_answer}
+use Rattle.p2p_log_rules.specs.Puts.{is_peer_set as gives_answer}
 
 -- the event of an effect, and its act
 pub effect-act : (configs : List Config) (log : List Entry) (ev : Event) → (effect configs log ev).event.act ≡ ev.act

@@ -16,9 +16,7 @@ use Rattle.p2p_log_rules.specs.Connections.{begins, ends_connection}
 use Rattle.p2p_log_rules.specs.Effect.{entry_of}
 use Rattle.p2p_log_rules.specs.Ending.{end_row}
 use Rattle.p2p_log_rules.specs.Facts.{registers_at, starts}
-use Rattle.p2p_log_rules.specs.Spawning.{steps_spawner, connections_of}
-use Rattle.p2p_log_rules.specs.Tracking.{steps_tracker}
-use Rattle.p2p_log_rules.specs.TrackerRows.{takes_answer}
+use Rattle.p2p_log_rules.specs.Spawning.{connections_of}
 pub use Rattle.p2p_log_rules.proofs.Connections.{half_act}
 use Rattle.p2p_log_rules.proofs.Connections.{steps_sender, begins_is}
 use Rattle.p2p_log_rules.proofs.Families.{kinds_of, are_apart}
@@ -38,6 +36,8 @@ use Rattle.p2p_net.specs.declared.node.Node.{Node}
 use Rattle.p2p_net.proofs.Leaving.{Leaving, half_is}
 use Rattle.p2p_net.proofs.Performing.{asked}
 use Rattle.p2p_net.proofs.Receivers.{SendsNothing, pings_ended}
+use Rattle.p2p_log_rules.proofs.Steps.{steps_tracker, steps_spawner}
+use Rattle.p2p_log_rules.proofs.Answers.{takes_answer}
 
 -- ---- what such a step is not
 

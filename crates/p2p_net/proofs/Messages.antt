@@ -21,7 +21,6 @@ use Rattle.p2p_log_rules.specs.Checking.{checked_at}
 use Rattle.p2p_log_rules.specs.Effect.{row, effect, takes_list}
 use Rattle.p2p_log_rules.specs.Facts.{events_of, latest_moment, registers_at, subscribers, routes, keys_in}
 use Rattle.p2p_log_rules.specs.Quotas.{at_places}
-use Rattle.p2p_log_rules.specs.Spawning.{steps_spawner}
 use Rattle.p2p_log_laws.specs.Listed.{ListsAreCurrent}
 use Rattle.p2p_net_router.specs.Peers.{names_taken}
 use Rattle.p2p_net_router.specs.Stands.{StandsFor, StandsOver}
@@ -47,6 +46,7 @@ use Rattle.p2p_net.specs.declared.offers.Offered.{Offered}
 use Rattle.p2p_net.proofs.EachPart.{is_in, with_parts, each_part}
 use Rattle.p2p_net.proofs.Frames.{links_kept}
 use Rattle.p2p_net.proofs.Performing.{Performs}
+use Rattle.p2p_log_rules.proofs.Steps.{steps_spawner}
 
 -- ---- the list of peers
 

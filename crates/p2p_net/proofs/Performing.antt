@@ -32,8 +32,6 @@ use Rattle.p2p_log_rules.proofs.Spawning.{connections_of-untaken}
 use Rattle.p2p_log_rules.specs.Effect.{only, row, effect}
 use Rattle.p2p_log_rules.specs.Handshakes.{ends_handshake, handshakes_of, peer_at}
 use Rattle.p2p_log_rules.proofs.Listening.{known_of-untaken}
-use Rattle.p2p_log_rules.specs.Tracking.{steps_tracker}
-use Rattle.p2p_log_rules.specs.TrackerRows.{takes_answer}
 use Rattle.p2p_net_tracker.specs.Stands.{asks_of}
 use Rattle.p2p_net_tracker.proofs.Changes.{tracker_frame}
 use Rattle.p2p_net_queues.proofs.Going.{line-kept}
@@ -60,6 +58,8 @@ use Rattle.p2p_log_rules.proofs.Families.{kinds_of, are_apart}
 use Rattle.p2p_log_rules.proofs.Handshakes.{Begins, Ends, handshakes_now}
 use Rattle.p2p_log_rules.proofs.Links.{exchange_kinds, listening_kinds, listening_ends_of-apart, listening_ends_of-listened, listening_ends_of-shaken}
 use Rattle.p2p_tracker_calls.specs.declared.gates.Reply.TheVariants as gates
+use Rattle.p2p_log_rules.proofs.Steps.{steps_tracker}
+use Rattle.p2p_log_rules.proofs.Answers.{takes_answer}
 
 -- an event with this act
 abbrev pub asked : ℕ → ℕ → Act → Event

@@ -24,9 +24,6 @@ use Rattle.p2p_log_rules.specs.Connections.{half_at, live_half, is_done, begins,
 use Rattle.p2p_log_rules.specs.Effect.{only, row, effect, takes_oldest, half_row, sender_row, send_step_row}
 use Rattle.p2p_log_rules.specs.Pings.{ping_frequency_at, is_past, ping_is_due}
 use Rattle.p2p_log_rules.specs.Facts.{is_up, starts, registers_at, taken, item_named}
-use Rattle.p2p_log_rules.specs.Spawning.{steps_spawner}
-use Rattle.p2p_log_rules.specs.Tracking.{steps_tracker}
-use Rattle.p2p_log_rules.specs.TrackerRows.{takes_answer}
 use Rattle.p2p_log_rules.proofs.Families.{kinds_of, are_apart}
 use Rattle.p2p_log_rules.proofs.Recorded.{item_named-first}
 use Rattle.p2p_log_rules.proofs.Spawning.{connections_of-unmade}
@@ -51,7 +48,7 @@ use Rattle.p2p_net_links.specs.declared.links.Links.{Links}
 use Rattle.p2p_net_links.proofs.Changes.{openings_unmoved, links_frame}
 use Rattle.p2p_log_rules.proofs.Dropping.{all_of, drops_of-send}
 use Rattle.p2p_net_links.proofs.Drops.{DropsNone}
-use Rattle.p2p_net_tracker.specs.Stands.{is_told, asks_of, TrackerStands, LeavesTracker}
+use Rattle.p2p_net_tracker.specs.Stands.{is_told, asks_of, TrackerStands}
 use Rattle.p2p_net_tracker.proofs.Changes.{tracker_frame}
 use Rattle.p2p_net.specs.Connecting.{Runs}
 use Rattle.p2p_net.specs.Places as place
@@ -64,6 +61,9 @@ use Rattle.p2p_net.proofs.Performing.{asked, Performs, IsStill, part_still, link
 use Rattle.p2p_log_rules.proofs.Connections.{live_connection-kept, begins_act, runs_is, running_of, ends_none-reply, has_run-append}
 use Rattle.p2p_log_rules.proofs.Handshakes.{handshake_kinds, handshakes_of-apart}
 use Rattle.p2p_log_rules.proofs.Routing.{route_kinds}
+use Rattle.p2p_log_rules.proofs.Steps.{steps_tracker, steps_spawner}
+use Rattle.p2p_log_rules.proofs.Answers.{takes_answer}
+use Rattle.p2p_net_tracker.proofs.Leaves.{LeavesTracker}
 
 -- the row of a step, where the node runs, by the half and how far it is
 pub half_steps : (configs : List Config) (log : List Entry) (conn n at : ℕ) (half : Half) (begun running : Bool) → is_up log n ≡ true → live_half log n conn ≡ Some half → is_begun log n conn ≡ begun → has_run log n conn ≡ running

@@ -15,7 +15,7 @@ use Rattle.p2p_log.specs.declared.event.Act.{Act}
 use Rattle.p2p_log.specs.declared.event.Act.TheVariants as act
 use Rattle.p2p_log_rules.specs.Connections.{is_done, begins, is_begun, ends_connection, is_ended, live_connection}
 use Rattle.p2p_log_rules.specs.Facts.{is_up, taken, with_begun}
-use Rattle.p2p_log_rules.specs.Spawning.{Spawned, steps_spawner, spawned_of, connections_of}
+use Rattle.p2p_log_rules.specs.Spawning.{Spawned, spawned_of, connections_of}
 use Rattle.p2p_log_rules.proofs.Connections.{steps_sender, steps_receiver, begins_act, is_begun-append, is_ended-append, live_connection-kept, ends_none-act}
 use Rattle.p2p_log_rules.proofs.Spawning.{connections_of-acted, connections_of-unmade}
 use Rattle.p2p_log_laws.specs.Leading.{ConnectionsAreOne}
@@ -27,6 +27,7 @@ use Rattle.p2p_net_router.specs.Stands.{StandsFor, HasPlaces, IsBeside}
 use Rattle.p2p_net_router.specs.declared.router.Router.{Router}
 use Rattle.p2p_net_router.proofs.Aside.{stands_idle}
 use Rattle.p2p_net.specs.Stands.{key_heard, HearsOfBegun, RouterStands}
+use Rattle.p2p_log_rules.proofs.Steps.{steps_spawner}
 
 -- ---- what a router knows of connections
 

@@ -12,7 +12,6 @@ use Rattle.p2p_log.specs.declared.event.Act.TheVariants as act
 use Rattle.p2p_log_rules.specs.declared.row.Row.{Row}
 use Rattle.p2p_log_rules.specs.Facts.{events_of, is_up}
 use Rattle.p2p_log_rules.specs.Effect.{only, row, effect, entry_of}
-use Rattle.p2p_log_rules.specs.Spawning.{steps_spawner}
 use Rattle.p2p_log_rules.specs.Tracking.{asked_by}
 use Rattle.p2p_log_rules.specs.TrackerRows.{tracker_step}
 use Rattle.p2p_log_rules.specs.Valid.{may_act}
@@ -35,6 +34,7 @@ use Rattle.p2p_net.proofs.EachPart.{is_in, each_part, not_among}
 use Rattle.p2p_net.proofs.Frames.{links_kept}
 use Rattle.p2p_net.proofs.Performing.{asked, Performs}
 use Rattle.p2p_net.proofs.Readying.{started_is}
+use Rattle.p2p_log_rules.proofs.Steps.{steps_spawner}
 
 -- an event that names the tracker of this node alone
 record NamesTracker (log : List Entry) (ev : Event) (n : ℕ) : Type 0 where

@@ -21,7 +21,6 @@ use Rattle.p2p_log_rules.specs.declared.row.Row.{Row}
 use Rattle.p2p_log_rules.specs.Connections.{is_begun, has_run, is_end}
 use Rattle.p2p_log_rules.specs.Effect.{row, effect, write_row, batch_size_at, beside_ping, batch, ping_puts, mailbox_size_at}
 use Rattle.p2p_log_rules.specs.Pings.{ping_frequency_at, is_past, ping_is_due}
-use Rattle.p2p_log_rules.specs.Spawning.{steps_spawner}
 use Rattle.p2p_log_rules.proofs.Connections.{live_connection-kept, ends_none-reply}
 use Rattle.p2p_log_rules.proofs.Spawning.{connections_of-unmade}
 use Rattle.p2p_log_rules.proofs.Touches.{away}
@@ -55,6 +54,7 @@ use Rattle.p2p_net.proofs.EachPart.{with_parts, each_part, not_among-links}
 use Rattle.p2p_net.proofs.Routers.{RouterStands-moved}
 use Rattle.p2p_net.proofs.Performing.{asked, Performs}
 use Rattle.p2p_net.proofs.RouterAnswers.{step_beside, step_begins, other_begins, step_receives, step_hears, step_drops, named_parts, step_untold, still_runs}
+use Rattle.p2p_log_rules.proofs.Steps.{steps_spawner}
 
 -- an item, to a queue
 abbrev put_frame : Queue → (ℕ × ℕ) × Item → Queue × Item

@@ -24,8 +24,8 @@ use Rattle.p2p_log_rules.specs.Effect.{entry_of}
 use Rattle.p2p_log_rules.specs.Rows.{only}
 use Rattle.p2p_log_rules.proofs.Families.{kinds_of, are_apart}
 use Rattle.p2p_log_rules.proofs.Handshakes.{handshake_kinds, handshakes_of-apart}
-use Rattle.p2p_log_rules.specs.Tracking.{asked_by, steps_tracker}
-use Rattle.p2p_log_rules.specs.TrackerRows.{takes_answer, is_peer_set, was_answered, oldest_row, answer_at, answer_by, answer_row, next_by, next_row}
+use Rattle.p2p_log_rules.specs.Tracking.{asked_by}
+use Rattle.p2p_log_rules.specs.TrackerRows.{was_answered, oldest_row, answer_at, answer_by, answer_row, next_by, next_row}
 use Rattle.p2p_net_queues.specs.declared.board.Board.{Board}
 use Rattle.p2p_net_queues.specs.Board.{held}
 use Rattle.p2p_net_queues.specs.Tables as table
@@ -37,7 +37,10 @@ use Rattle.p2p_net_tracker.specs.Reading.{read_first, Pops, ReadsFrom, OnlyAnswe
 use Rattle.p2p_net_tracker.specs.Stands.{asks_of, asks_at, AreFresh, is_told, TrackerStands}
 use Rattle.p2p_net_tracker.proofs.Changes.{tracker_frame, TellsAsker, tracker_read}
 use Rattle.p2p_net_tracker.proofs.Ended.{steps_half, no_end-act}
-use Rattle.p2p_net_tracker.proofs.Facts.{fresh-longer, was_answered-append, was_answered-kept}
+use Rattle.p2p_net_tracker.proofs.Facts.{fresh-longer, was_answered-kept}
+use Rattle.p2p_log_rules.proofs.Steps.{steps_tracker}
+use Rattle.p2p_log_rules.proofs.Answers.{takes_answer, was_answered-append}
+use Rattle.p2p_log_rules.specs.Puts.{is_peer_set}
 
 -- what was asked of a node, by the act that asked
 pub asks-asked : (log : List Entry) (n e : ℕ) (a : Act) → asked_by log e ≡ Some a → asks_at log n e ≡ asks_of n a

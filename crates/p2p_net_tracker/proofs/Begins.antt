@@ -70,7 +70,7 @@ unfolding IsDistinct
 none_distinct = tt
 
 none_answered : (d : ℕ) → was_answered [] d ≡ false
-unfolding was_answered
+unfolding was_answered told state_from
 none_answered d = refl
 
 follows_none : (d : Kept Key) → StandsFor key_cmp d [] → Follows key_cmp d [] []

@@ -24,7 +24,7 @@ use Rattle.p2p_log.proofs.Queues.{same_queue-refl}
 use Rattle.p2p_log.proofs.QueueNames.{queue_from_same}
 use Rattle.p2p_log_rules.specs.Connections.{ends_connection}
 use Rattle.p2p_log_rules.specs.Handshakes.{handshakes_of}
-use Rattle.p2p_log_rules.specs.Tracking.{key_cmp, asked_by, steps_tracker, update_subscriptions, blocked_subscriptions}
+use Rattle.p2p_log_rules.specs.Tracking.{key_cmp, asked_by, update_subscriptions, blocked_subscriptions}
 use Rattle.p2p_net_queues.specs.Board.{held}
 use Rattle.p2p_net_queues.proofs.Going.{put_in, line-kept, line-taken}
 use Rattle.p2p_net_queues.proofs.Holding.{TakesFirst}
@@ -34,16 +34,19 @@ use Rattle.p2p_net_tracker.specs.Asking.{message_of}
 use Rattle.p2p_net_tracker.specs.GivenBack.{IsGivenBack}
 use Rattle.p2p_net_tracker.specs.declared.naming.Tickets.{Tickets}
 use Rattle.p2p_net_tracker.specs.declared.tracker.Tracker.{Tracker}
-use Rattle.p2p_log_rules.specs.TrackerRows.{takes_answer, was_answered}
+use Rattle.p2p_log_rules.specs.TrackerRows.{was_answered}
 use Rattle.p2p_net_queues.specs.Tables as table
 use Rattle.p2p_net_tracker.specs.declared.question.Question.{Question}
 use Rattle.p2p_net_tracker.specs.declared.question.Question.TheVariants as question
 use Rattle.p2p_net_queues.specs.Matching.{Match}
-use Rattle.p2p_net_tracker.specs.Stands.{asks_of, asks_at, AreFresh, is_told, IsTicket, kind_of, HasTicket, Says, IsMessage, IsAnswer, HeardStands, TrackerStands, LeavesTracker}
+use Rattle.p2p_net_tracker.specs.Stands.{asks_of, asks_at, AreFresh, is_told, IsTicket, kind_of, HasTicket, Says, IsMessage, IsAnswer, HeardStands, TrackerStands}
 use Rattle.p2p_net_tracker.proofs.Ended.{noted_stay}
 use Rattle.p2p_net_tracker.proofs.GivenBack.{all_given-longer}
 use Rattle.p2p_net_tracker.proofs.Facts.{asks_at-kept, fresh-longer, was_answered-kept, calls-kept, update_subscriptions-kept, blocked_subscriptions-kept, asked_by-longer, handshaking-kept, source_at-longer}
 use Rattle.p2p_net_queues.proofs.Matching.{Match-weaker, Match-last, slice_get-last}
+use Rattle.p2p_log_rules.proofs.Steps.{steps_tracker}
+use Rattle.p2p_log_rules.proofs.Answers.{takes_answer}
+use Rattle.p2p_net_tracker.proofs.Leaves.{LeavesTracker}
 
 -- the tickets are these, and some more
 pub record AreMore (old new : Tickets) : Type 0 where

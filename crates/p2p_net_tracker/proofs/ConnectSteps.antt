@@ -18,8 +18,6 @@ use Rattle.p2p_log_rules.specs.Effect.{begin_row, entry_of}
 use Rattle.p2p_log_rules.specs.Connections.{ends_connection}
 use Rattle.p2p_log_rules.specs.Handshakes.{handshakes_of}
 use Rattle.p2p_log_rules.proofs.Handshakes.{handshakes_of-apart}
-use Rattle.p2p_log_rules.specs.Tracking.{steps_tracker}
-use Rattle.p2p_log_rules.specs.TrackerRows.{takes_answer}
 use Rattle.p2p_net_queues.proofs.Going.{put_in, line-kept}
 use Rattle.p2p_net_queues.specs.Matching.{Match}
 use Rattle.p2p_net_tracker.specs.declared.tracker.Tracker.{Tracker}
@@ -29,6 +27,8 @@ use Rattle.p2p_net_tracker.proofs.Changes.{told_apart}
 use Rattle.p2p_net_tracker.proofs.Ended.{no_end-reply, noted_stay}
 use Rattle.p2p_net_tracker.proofs.Facts.{handshaking-kept}
 use Rattle.p2p_net_tracker.proofs.Moved.{tracker_moved, desk_grows}
+use Rattle.p2p_log_rules.proofs.Steps.{steps_tracker}
+use Rattle.p2p_log_rules.proofs.Answers.{takes_answer}
 
 -- the entry tells the tracker that the connection conn with a peer has begun, and the router after it, and is nothing else for the tracker
 pub record Connects (log : List Entry) (e : Entry) (n conn : ℕ) (peer : Key) : Type 0 where

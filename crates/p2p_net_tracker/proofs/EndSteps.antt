@@ -21,8 +21,6 @@ use Rattle.p2p_log.proofs.QueueNames.{queue_from_same}
 use Rattle.p2p_log_rules.proofs.Connections.{half_act, ends_half}
 use Rattle.p2p_log_rules.specs.Connections.{is_end, ends_connection}
 use Rattle.p2p_log_rules.specs.Handshakes.{handshakes_of}
-use Rattle.p2p_log_rules.specs.Tracking.{steps_tracker}
-use Rattle.p2p_log_rules.specs.TrackerRows.{takes_answer}
 use Rattle.p2p_net_queues.specs.Board.{held}
 use Rattle.p2p_net_queues.specs.Matching.{Match}
 use Rattle.p2p_net_queues.proofs.Going.{put_in}
@@ -36,6 +34,8 @@ use Rattle.p2p_net_tracker.proofs.Ended.{noted_more}
 use Rattle.p2p_net_tracker.proofs.GivenBack.{given_now}
 use Rattle.p2p_net_tracker.proofs.Facts.{handshaking-kept}
 use Rattle.p2p_net_tracker.proofs.Moved.{tracker_moved, desk_grows}
+use Rattle.p2p_log_rules.proofs.Steps.{steps_tracker}
+use Rattle.p2p_log_rules.proofs.Answers.{takes_answer}
 
 -- what an entry that ends this connection makes of the tracker: at this place it gives the reservation of its peer back
 pub record EndMoves (log : List Entry) (e : Entry) (n conn place : ℕ) (reserved : Metadata Key) (t u : Tracker) : Type 0 where

@@ -12,19 +12,19 @@ use Rattle.p2p_log.specs.declared.queue.Queue.TheVariants as queue
 use Rattle.p2p_log.specs.Lines.{line}
 use Rattle.p2p_log_rules.specs.Facts.{taken}
 use Rattle.p2p_log_rules.specs.Handshakes.{handshakes_of, is_handshaking, source_of, source_at}
-use Rattle.p2p_log_rules.specs.Tracking.{asked_by, steps_tracker, rules_at, grants_peer, calls_of, update_subscriptions, blocked_subscriptions}
+use Rattle.p2p_log_rules.specs.Tracking.{asked_by, rules_at, grants_peer, calls_of, update_subscriptions, blocked_subscriptions}
 use Rattle.p2p_log_rules.proofs.Calls.{step_calls, call_where, calls_taken, subscribes, subscribes_blocked, calls_of-append, update_subscriptions-append, blocked_subscriptions-append}
-use Rattle.p2p_log_rules.specs.TrackerRows.{takes_answer, was_answered}
+use Rattle.p2p_log_rules.specs.TrackerRows.{was_answered}
+use Rattle.p2p_log_rules.proofs.Answers.{takes_answer, was_answered-append}
 use Rattle.p2p_log_rules.proofs.TakenAt.{taken_at-longer, taken_at-late}
 use Rattle.p2p_log.proofs.Places.{slice_get-append}
 use Rattle.std.proofs.lemmas.Option.{slice_get_past}
 use Rattle.std.proofs.lemmas.Bool.Decides.{nat_tests}
-use Rattle.std.proofs.lemmas.List.Folds.{list_any-append}
-use Rattle.p2p_log_rules.proofs.Bools.{or_false}
 use Rattle.p2p_tracker_mailbox.specs.Lines.{Lines, line_of}
 use Rattle.p2p_tracker_mailbox.specs.declared.answer.HandshakeItem.{HandshakeItem}
 use Rattle.p2p_net_tracker.specs.Stands.{asks_of, asks_at, AreFresh, HandshakeStands}
 use Rattle.p2p_net_queues.proofs.Matching.{slice_get-longer}
+use Rattle.p2p_log_rules.proofs.Steps.{steps_tracker}
 
 pub calls-kept : (configs : List Config) (log : List Entry) (e : Entry) (n : ℕ) → steps_tracker n e.event.act ≡ false → calls_of configs (log ++ e ∷ []) n ≡ calls_of configs log n
 calls-kept configs log e n no_step =
@@ -89,10 +89,6 @@ asks_at-kept log e n d none = asks_at-longer log e n d ∙ by (d == length log) 
       where
         at_end : (a b : ℕ) → (a == b) ≡ true → b ≤ a
         at_end a b is = grind (arith, nat_tests)
-
-pub was_answered-append : (log : List Entry) (e : Entry) (d : ℕ) → was_answered (log ++ e ∷ []) d ≡ (was_answered log d || takes_answer d e.event.act e.reply)
-unfolding was_answered
-was_answered-append log e d = list_any-append (λ (k : Entry). takes_answer d k.event.act k.reply) log (e ∷ []) ∙ ap (λ b. list_any (λ (k : Entry). takes_answer d k.event.act k.reply) log || b) (or_false (takes_answer d e.event.act e.reply))
 
 pub fresh-longer : (log : List Entry) (e : Entry) (answered : List (ℕ × Bool)) → AreFresh log answered → ((d : ℕ) → length log ≤ d → takes_answer d e.event.act e.reply ≡ false) → AreFresh (log ++ e ∷ []) answered
 fresh-longer log e answered fresh none d past =

@@ -17,8 +17,6 @@ use Rattle.p2p_log.specs.QueueCode.{same_queue}
 use Rattle.p2p_log.specs.Lines.{line}
 use Rattle.p2p_log_rules.specs.Connections.{ends_connection}
 use Rattle.p2p_log_rules.specs.Handshakes.{handshakes_of, is_handshaking}
-use Rattle.p2p_log_rules.specs.Tracking.{steps_tracker}
-use Rattle.p2p_log_rules.specs.TrackerRows.{takes_answer}
 use Rattle.p2p_net_queues.specs.Board.{held}
 use Rattle.p2p_net_tracker.specs.Finishing.{told_finished}
 use Rattle.p2p_net_tracker.specs.declared.tracker.Tracker.{Tracker}
@@ -28,6 +26,8 @@ use Rattle.p2p_net_tracker.proofs.Distinct.{distinct-with_line}
 use Rattle.p2p_net_tracker.proofs.Ended.{noted_stay}
 use Rattle.p2p_net_tracker.proofs.Hearing.{runs_is, item_told}
 use Rattle.p2p_net_tracker.proofs.Moved.{tracker_moved, by_place}
+use Rattle.p2p_log_rules.proofs.Steps.{steps_tracker}
+use Rattle.p2p_log_rules.proofs.Answers.{takes_answer}
 
 -- what the entry makes of the tracker: at this place it tells the handshake h, which runs, whether its keys were exchanged
 pub record FinishMoves (log : List Entry) (e : Entry) (n h place : ℕ) (ok : Bool) (t u : Tracker) : Type 0 where

@@ -23,8 +23,6 @@ use Rattle.p2p_log.specs.QueueCode.{same_queue}
 use Rattle.p2p_log.specs.Lines.{line}
 use Rattle.p2p_log_rules.specs.Connections.{ends_connection}
 use Rattle.p2p_log_rules.specs.Handshakes.{handshakes_of, is_handshaking}
-use Rattle.p2p_log_rules.specs.Tracking.{steps_tracker}
-use Rattle.p2p_log_rules.specs.TrackerRows.{takes_answer}
 use Rattle.p2p_log_rules.proofs.Handshakes.{without_name, among-without}
 use Rattle.p2p_net_queues.specs.Board.{held}
 use Rattle.p2p_net_tracker.specs.Dialed.{names_asked}
@@ -35,6 +33,8 @@ use Rattle.p2p_net_tracker.proofs.Distinct.{distinct-with_line}
 use Rattle.p2p_net_tracker.proofs.Ended.{noted_stay}
 use Rattle.p2p_net_queues.proofs.Matching.{Match-drop}
 use Rattle.p2p_net_tracker.proofs.Moved.{tracker_moved, by_place, asked_line, names_are, asked_messages, asked_desk, IsAsked, asked_match, IsAskedBack, asked_back, desk_grows}
+use Rattle.p2p_log_rules.proofs.Steps.{steps_tracker}
+use Rattle.p2p_log_rules.proofs.Answers.{takes_answer}
 
 -- what is left for a handshake of which a step took its oldest item, or which ended
 abbrev pub after_step : Bool → Option (List (HandshakeItem Key)) → Option (List (HandshakeItem Key))

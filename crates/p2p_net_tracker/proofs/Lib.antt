@@ -14,6 +14,7 @@ pub mod GivenBack
 pub mod HandshakeSteps
 pub mod Hearing
 pub mod LateKills
+pub mod Leaves
 pub mod ListenerSteps
 pub mod Moved
 pub mod Named

@@ -23,8 +23,6 @@ use Rattle.p2p_log.specs.Lines.{line}
 use Rattle.p2p_log.proofs.Queues.{same_queue-refl}
 use Rattle.p2p_log_rules.specs.Connections.{ends_connection}
 use Rattle.p2p_log_rules.specs.Handshakes.{handshakes_of, is_handshaking, source_at}
-use Rattle.p2p_log_rules.specs.Tracking.{steps_tracker}
-use Rattle.p2p_log_rules.specs.TrackerRows.{takes_answer}
 use Rattle.p2p_log_rules.proofs.Handshakes.{none_later}
 use Rattle.p2p_net_queues.specs.Board.{held}
 use Rattle.p2p_net_queues.proofs.Tables.{lookup-insert_entry}
@@ -36,6 +34,8 @@ use Rattle.p2p_net_tracker.proofs.Ended.{noted_stay}
 use Rattle.p2p_net_tracker.proofs.Facts.{handshaking-kept}
 use Rattle.p2p_net_tracker.proofs.Hearing.{one_waits}
 use Rattle.p2p_net_tracker.proofs.Moved.{tracker_moved, by_place}
+use Rattle.p2p_log_rules.proofs.Steps.{steps_tracker}
+use Rattle.p2p_log_rules.proofs.Answers.{takes_answer}
 
 -- ---- it takes what it was told
 

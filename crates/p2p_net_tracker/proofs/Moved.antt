@@ -18,8 +18,7 @@ use Rattle.p2p_log.specs.Lines.{name_of, placed, stands_in, line}
 use Rattle.p2p_log.proofs.Queues.{same_queue-refl}
 use Rattle.p2p_log_rules.specs.Connections.{is_ended}
 use Rattle.p2p_log_rules.specs.Handshakes.{is_handshaking}
-use Rattle.p2p_log_rules.specs.Tracking.{key_cmp, steps_tracker}
-use Rattle.p2p_log_rules.specs.TrackerRows.{takes_answer}
+use Rattle.p2p_log_rules.specs.Tracking.{key_cmp}
 use Rattle.p2p_net_queues.specs.Board.{held}
 use Rattle.p2p_net_queues.proofs.Going.{put_in}
 use Rattle.p2p_net_tracker.specs.Dialed.{asked_puts, names_asked}
@@ -33,6 +32,8 @@ use Rattle.p2p_net_tracker.proofs.Changes.{same_tickets, messages-longer, told_a
 use Rattle.p2p_net_tracker.proofs.Facts.{asks_at-kept, fresh-longer, was_answered-kept, calls-kept, update_subscriptions-kept, blocked_subscriptions-kept}
 use Rattle.p2p_net_queues.proofs.Matching.{Match-append}
 use Rattle.p2p_net_tracker.proofs.GivenBack.{all_given-longer}
+use Rattle.p2p_log_rules.proofs.Steps.{steps_tracker}
+use Rattle.p2p_log_rules.proofs.Answers.{takes_answer}
 
 -- what the entry makes of the tracker: these messages wait in these envelopes beside those before
 pub record TrackerMoves (log : List Entry) (e : Entry) (n : ℕ) (t u : Tracker) (xs : List Envelope) (ms : List (Message Key)) : Type 0 where

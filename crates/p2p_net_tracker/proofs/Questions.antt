@@ -26,8 +26,8 @@ use Rattle.p2p_log_rules.specs.Effect.{entry_of}
 use Rattle.p2p_log_rules.specs.Rows.{only, mailbox_size_at}
 use Rattle.p2p_log_rules.proofs.Families.{kinds_of, are_apart}
 use Rattle.p2p_log_rules.proofs.Handshakes.{handshake_kinds, handshakes_of-apart}
-use Rattle.p2p_log_rules.specs.Tracking.{key_cmp, steps_tracker}
-use Rattle.p2p_log_rules.specs.TrackerRows.{takes_answer, was_answered, asked_row, most_peers_at, size_at, track_row, ask_row}
+use Rattle.p2p_log_rules.specs.Tracking.{key_cmp}
+use Rattle.p2p_log_rules.specs.TrackerRows.{was_answered, asked_row, most_peers_at, size_at, track_row, ask_row}
 use Rattle.p2p_net_queues.specs.Board.{held}
 use Rattle.p2p_net_queues.specs.Tables as table
 use Rattle.p2p_net_queues.proofs.Tables.{lookup-insert_entry}
@@ -42,6 +42,8 @@ use Rattle.p2p_net_tracker.proofs.Changes.{same_tickets, Asks, tracker_asked}
 use Rattle.p2p_net_tracker.proofs.Ended.{steps_half, no_end-act}
 use Rattle.p2p_net_tracker.proofs.Facts.{asks_at-longer, asks_at-kept}
 use Rattle.p2p_net_queues.proofs.Matching.{Match-long, slice_get-longer, slice_get-last}
+use Rattle.p2p_log_rules.proofs.Steps.{steps_tracker}
+use Rattle.p2p_log_rules.proofs.Answers.{takes_answer}
 
 -- what the mailbox tells is what the log says
 told_is : (closed : Bool) (items capacity waiting size : ℕ) → closed ≡ false → waiting ≡ items → capacity ≡ size

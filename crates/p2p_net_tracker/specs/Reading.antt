@@ -11,12 +11,13 @@ use Rattle.p2p_log.specs.declared.entry.Reply.TheVariants as reply
 use Rattle.p2p_log.specs.QueueCode.{same_queue}
 use Rattle.p2p_log_rules.specs.declared.row.Row.{Row}
 use Rattle.p2p_log_rules.specs.Rows.{only}
-use Rattle.p2p_log_rules.specs.TrackerRows.{told_of, taken_row, is_peer_set}
+use Rattle.p2p_log_rules.specs.TrackerRows.{told_of, taken_row}
 use Rattle.p2p_net_queues.specs.Board.{held}
 use Rattle.p2p_net_queues.specs.Tables as table
 use Rattle.p2p_net_tracker.specs.declared.question.Question.{Question}
 use Rattle.p2p_net_tracker.specs.declared.question.Question.TheVariants as question
 use Rattle.p2p_net_tracker.specs.declared.tracker.Tracker.{Tracker}
+use Rattle.p2p_log_rules.specs.Puts.{is_peer_set}
 
 abbrev pub reply_for : Item → Reply
 reply_for i = told_of i

@@ -30,12 +30,12 @@ use Rattle.p2p_log.specs.declared.asked.Asked.TheVariants as ask
 use Rattle.p2p_log.specs.declared.event.Act.{Act}
 use Rattle.p2p_log.specs.declared.event.Act.TheVariants as act
 use Rattle.p2p_log.specs.Lines.{name_of, line}
-use Rattle.p2p_log_rules.specs.Connections.{ends_connection, is_ended}
+use Rattle.p2p_log_rules.specs.Connections.{is_ended}
 use Rattle.p2p_log_rules.specs.Facts.{key_at}
-use Rattle.p2p_log_rules.specs.Handshakes.{handshakes_of, is_handshaking, source_at}
+use Rattle.p2p_log_rules.specs.Handshakes.{is_handshaking, source_at}
 use Rattle.p2p_log_rules.specs.Rows.{mailbox_size_at}
-use Rattle.p2p_log_rules.specs.Tracking.{key_cmp, rules_at, asked_by, steps_tracker, calls_of, update_subscriptions, blocked_subscriptions}
-use Rattle.p2p_log_rules.specs.TrackerRows.{most_peers_at, takes_answer, was_answered}
+use Rattle.p2p_log_rules.specs.Tracking.{key_cmp, rules_at, asked_by, calls_of, update_subscriptions, blocked_subscriptions}
+use Rattle.p2p_log_rules.specs.TrackerRows.{most_peers_at, was_answered}
 use Rattle.p2p_net_queues.specs.Matching.{Match}
 use Rattle.p2p_net_queues.specs.Board.{held}
 use Rattle.p2p_net_queues.specs.Tables as table
@@ -193,14 +193,3 @@ pub record TrackerStands (configs : List Config) (log : List Entry) (n : ℕ) (t
   pub distinct : AreDistinct t.mailbox.handshakes
   -- what waits for those who asked is their line
   pub told : (q : Queue) → is_told n q ≡ true → held t.told q ≡ line log q
-
--- an entry that leaves it alone
-pub record LeavesTracker (log : List Entry) (e : Entry) (n : ℕ) : Type 0 where
-  pub no_step : steps_tracker n e.event.act ≡ false
-  pub no_question : asks_of n e.event.act ≡ None
-  pub no_answer : (d : ℕ) → asks_at log n d ≡ Some question.PeerSet → takes_answer d e.event.act e.reply ≡ false
-  pub no_late_answer : (d : ℕ) → length log ≤ d → takes_answer d e.event.act e.reply ≡ false
-  pub no_end : (conn : ℕ) → ends_connection n conn log e ≡ false
-  pub handshakes : handshakes_of (log ++ e ∷ []) n ≡ handshakes_of log n
-  pub mailbox : line (log ++ e ∷ []) (queue.Tracker n) ≡ line log (queue.Tracker n)
-  pub told : (q : Queue) → is_told n q ≡ true → line (log ++ e ∷ []) q ≡ line log q

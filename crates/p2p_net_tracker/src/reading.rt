@@ -1,6 +1,6 @@
 //! What those who asked a tracker take.
 ghost use Rattle.std.specs.Prelude.{◌≡◌, IfOk};
-ghost use Rattle.p2p_log_rules.specs.TrackerRows.{is_peer_set as is_answer_test};
+ghost use Rattle.p2p_log_rules.specs.Puts.{is_peer_set as is_answer_test};
 ghost use Rattle.p2p_net_tracker.specs.Reading.{reply_for, ReadsFrom, ReadsAnswer, Answers, Continues};
 
 use crate::question::Question;
