@@ -22,7 +22,7 @@ use crate::events::perform;
 use crate::node::{Node, node_of};
 use crate::valid::is_valid;
 use p2p_base::List;
-use p2p_log::{Config, Event, Report};
+use p2p_log::{Config, Entry, Event, Report};
 use p2p_net_links::Links;
 use std::alloc::{AllocError, Global};
 use std::marker::Model;
@@ -202,6 +202,13 @@ impl World {
             world.apply(event)?;
         }
         Ok(world)
+    }
+
+    /// What was asked of the world, and what came of it, the oldest first.
+    pub fn entries(&self) -> &[Entry]
+        ensures { result.now ≡ self.now.log }
+    {
+        self.report.log.as_slice()
     }
 
     /// What was asked of the world, and what came of it.
