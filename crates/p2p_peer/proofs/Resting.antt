@@ -6,6 +6,7 @@ use Rattle.p2p_base.specs.declared.outcome.Sent.TheVariants as sent
 use Rattle.p2p_flow_connection.specs.Arriving.{Arrived, arrival_answer}
 use Rattle.p2p_flow_connection.specs.Delivering.{delivered_by, verdict_at, arrival_of}
 use Rattle.p2p_runtime.specs.declared.streams.Failed.{Failed}
+use Rattle.p2p_peer_shared.specs.Hearing.{comes, passes}
 use Rattle.p2p_tracker_directory.specs.Reserved.{peer_of}
 use Rattle.p2p_wire.specs.Frame.{decode_frame}
 use Rattle.p2p_wire.specs.declared.error.CodecError.{CodecError}
@@ -13,7 +14,7 @@ use Rattle.p2p_wire.specs.declared.frame.Data.{Data}
 use Rattle.p2p_wire.specs.declared.frame.Message.{Message}
 use Rattle.p2p_wire.specs.declared.frame.Message.TheVariants as wire
 use Rattle.p2p_peer.specs.Connection.{Connection}
-use Rattle.p2p_peer.specs.Ready.{is_idle, comes, passes, receives_held, receives_of, receives}
+use Rattle.p2p_peer.specs.Ready.{is_idle, receives_held, receives_of, receives}
 use Rattle.p2p_peer.specs.Receiving.{pinged, received_as, ping_admitted, with_ping, with_decoded, with_heard, with_held, is_running, receive_answer, receive_answer_of, only}
 use Rattle.p2p_peer.specs.declared.peer.live.Live.{Live}
 use Rattle.p2p_peer.specs.declared.peer.stepped.Stepped.TheVariants as stepped

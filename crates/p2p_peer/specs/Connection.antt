@@ -2,13 +2,10 @@
 use Rattle.std.specs.Prelude.{ℕ, Bool, true, false, List, [], Option, Some, None}
 use Rattle.std.specs.declared.cmp.Ordering.{Ordering}
 use Rattle.p2p_base.specs.Queue.{Queue, closed_queue}
-use Rattle.p2p_flow.specs.Lanes.{Lanes, empty_lanes, closed_lanes}
-use Rattle.p2p_wire.specs.declared.encoded.EncodedData.{EncodedData}
-use Rattle.p2p_router.specs.Connections.{relay_at, with_relay_at}
-use Rattle.p2p_router.specs.Mailbox.{appended}
-use Rattle.p2p_router.specs.Messenger.{Desk, in_mailbox}
+use Rattle.p2p_flow.specs.Lanes.{empty_lanes}
+use Rattle.p2p_peer_shared.specs.Routing.{put_to_router, with_closed}
+use Rattle.p2p_router.specs.Messenger.{Desk}
 use Rattle.p2p_router.specs.Routes.{Routes}
-use Rattle.p2p_router.specs.declared.message.Message.{Message as RouterMessage}
 use Rattle.p2p_router.specs.declared.message.Message.TheVariants as router
 use Rattle.p2p_tracker_directory.specs.Reserved.{peer_of}
 use Rattle.p2p_tracker_mailbox.specs.Mailboxes.{with_message_in}
@@ -58,11 +55,6 @@ module _ {P : Type 0} where
     failed = c.failed;
   }
 
-  -- with one more message for the router
-  abbrev pub put_to_router : Desk P → RouterMessage P → Desk P
-  put_to_router d m =
-      record { binding = in_mailbox (λ q. appended q m) d.binding; waiting = d.waiting; lists = d.lists }
-
   -- the router is told that it is ready where it begins, and to release its peer where it ends
   abbrev pub told_to_router : Stepped P → P → ℕ → ℕ → Desk P → Desk P
   told_to_router stepped.Started peer size conn d = put_to_router d (router.Ready peer (empty_lanes size) conn)
@@ -91,15 +83,6 @@ module _ {P : Type 0} where
     -- the tracker's mailbox after a step with this answer: the reservation is given back where it ends
     abbrev pub way_after : Stepped P → Way P → Way P
     way_after s way = way_of c.live s way
-
-  module _ (cmp : P → P → Ordering) where
-    abbrev pub relay_closed : Routes P → ℕ → Option (Lanes EncodedData) → Routes P
-    relay_closed r conn None = r
-    relay_closed r conn (Some lanes) = with_relay_at cmp r conn (closed_lanes lanes)
-
-    -- the router once the relay of a connection is closed
-    abbrev pub with_closed : Routes P → ℕ → Routes P
-    with_closed r conn = relay_closed r conn (relay_at cmp r conn)
 
   module _ (cmp : P → P → Ordering) where
     -- the router after a step with this answer: the relay is closed where it ends

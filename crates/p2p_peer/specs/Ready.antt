@@ -1,10 +1,11 @@
 -- Whether an input of a half of a connection is ready.
-use Rattle.std.specs.Prelude.{ℕ, Bool, true, false, ◌||◌, ◌&&◌, cond, nat_le, List, Option, Some, None, is_some, slice_get, Result, Ok, Err}
+use Rattle.std.specs.Prelude.{ℕ, Bool, true, false, ◌||◌, ◌&&◌, cond, nat_le, List, Option, Some, None, is_some, slice_get, Result}
 use Rattle.std.specs.declared.cmp.Ordering.{Ordering}
 use Rattle.p2p_base.specs.Queue.{Queue}
 use Rattle.p2p_flow.specs.Lanes.{Lanes}
 use Rattle.p2p_flow_connection.specs.Batching.{next_of}
 use Rattle.p2p_flow_connection.specs.Delivering.{verdict_at}
+use Rattle.p2p_peer_shared.specs.Hearing.{comes, passes}
 use Rattle.p2p_router.specs.Connections.{relay_at}
 use Rattle.p2p_router.specs.Routes.{Routes}
 use Rattle.p2p_runtime.specs.declared.streams.Failed.{Failed}
@@ -26,16 +27,6 @@ sends_at stage.Waiting control lanes now = is_some lanes
 sends_at (stage.Running ping_at) control None now = true
 sends_at (stage.Running ping_at) control (Some l) now =
     nat_le ping_at now || is_some (next_of (slice_get control.items 0) control.closed l)
-
--- the link has a frame, or met a fault
-abbrev pub comes : Result (Option (List ℕ)) Failed → Bool
-comes (Err f) = true
-comes (Ok frame) = is_some frame
-
--- the quota of a message admits it, or there is none
-abbrev pub passes : Option Bool → Bool
-passes None = true
-passes (Some admitted) = admitted
 
 module _ {P : Type 0} where
   abbrev pub is_idle : Stepped P → Bool

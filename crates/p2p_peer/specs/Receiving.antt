@@ -1,11 +1,12 @@
 -- What the receiving half of a connection does, by its first ready input: while something is held, that, once its quota admits it; and
 -- otherwise a frame of the link, or a fault.
-use Rattle.std.specs.Prelude.{ℕ, Bool, true, false, not, ◌&&◌, cond, List, [], drop, slice_get, Option, Some, None, is_some, Result, Ok, Err, is_ok}
+use Rattle.std.specs.Prelude.{ℕ, Bool, true, false, not, ◌&&◌, cond, List, [], Option, Some, None, is_some, Result, Ok, Err, is_ok}
 use Rattle.p2p_flow_connection.specs.Arriving.{Arrived}
 use Rattle.p2p_flow_connection.specs.Delivering.{deliver_answer, after_deliver, arrived_after}
 use Rattle.p2p_flow_connection.specs.declared.delivered.Delivered.{Delivered}
 use Rattle.p2p_flow_connection.specs.declared.delivered.Delivered.TheVariants as delivered
 use Rattle.p2p_flow_connection.specs.declared.error.Error.TheVariants as cause
+use Rattle.p2p_peer_shared.specs.Hearing.{heard_by}
 use Rattle.p2p_runtime.specs.QuotaCheck.{rate_answer, after_rate}
 use Rattle.p2p_runtime.specs.declared.streams.Failed.{Failed}
 use Rattle.p2p_tracker_directory.specs.Reserved.{peer_of}
@@ -32,11 +33,6 @@ pub record Received (P : Type 0) : Type 0 where
 abbrev pub is_running : Stage → Bool
 is_running (stage.Running ping_at) = true
 is_running _ = false
-
--- what waits on the link, once it was read or not
-abbrev pub left_waiting : Bool → List (List ℕ) → List (List ℕ)
-left_waiting true waiting = drop 1 waiting
-left_waiting false waiting = waiting
 
 module _ {P : Type 0} where
   -- a ping, whether it was held, and whether its quota admits it
@@ -126,7 +122,7 @@ module _ {P : Type 0} where
 
   -- what was heard of the link, by the answer, where these frames wait
   abbrev pub heard_in : Stepped P → List (List ℕ) → Result (Option (List ℕ)) Failed
-  heard_in s waiting = cond (receive_fails s) (Err (record {})) (Ok (slice_get waiting 0))
+  heard_in s waiting = heard_by (receive_fails s) waiting
 
   -- the link is read where nothing is held
   abbrev pub reads : Live P → Bool

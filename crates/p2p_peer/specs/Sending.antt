@@ -1,12 +1,14 @@
 -- What the sending half of a connection does, by its first ready input: it begins; it takes its router's answer; then a ping at its
 -- deadline, its control, the frames with priority, and those without.
-use Rattle.std.specs.Prelude.{ℕ, ◌+◌, ◌-◌, ◌==◌, Bool, true, false, cond, nat_le, List, [], ◌∷◌, length, Option, Some, None}
+use Rattle.std.specs.Prelude.{ℕ, ◌+◌, ◌==◌, Bool, true, false, cond, nat_le, List, [], length, Option, Some, None}
 use Rattle.std.specs.declared.cmp.Ordering.{Ordering}
 use Rattle.p2p_base.specs.Queue.{Queue, with_items}
 use Rattle.p2p_flow.specs.Lanes.{Lanes}
-use Rattle.p2p_flow_connection.specs.Batching.{Filled, filled, has_ended}
 use Rattle.p2p_flow_connection.specs.declared.error.Error.TheVariants as cause
-use Rattle.p2p_router.specs.Connections.{relay_at, with_relay_at}
+use Rattle.p2p_peer_shared.specs.Gathering.{gathered_over, control_over, router_over}
+use Rattle.p2p_peer_shared.specs.declared.gathering.Gathered.{Gathered}
+use Rattle.p2p_peer_shared.specs.declared.gathering.Gathered.TheVariants as gathered
+use Rattle.p2p_router.specs.Connections.{relay_at}
 use Rattle.p2p_router.specs.Routes.{Routes}
 use Rattle.p2p_tracker_directory.specs.Reserved.{peer_of}
 use Rattle.p2p_wire.specs.Frame.{frame}
@@ -18,42 +20,25 @@ use Rattle.p2p_peer.specs.declared.peer.live.Live.{Live}
 use Rattle.p2p_peer.specs.declared.peer.live.Stage.{Stage}
 use Rattle.p2p_peer.specs.declared.peer.live.Stage.TheVariants as stage
 use Rattle.p2p_peer.specs.declared.peer.mailbox.Message.{Message}
-use Rattle.p2p_peer.specs.declared.peer.sending.Gathered.{Gathered}
-use Rattle.p2p_peer.specs.declared.peer.sending.Gathered.TheVariants as gathered
 use Rattle.p2p_peer.specs.declared.peer.stepped.Stepped.{Stepped}
 use Rattle.p2p_peer.specs.declared.peer.stepped.Stepped.TheVariants as stepped
 
 -- ---- a batch
 
--- a ping, where it is due
-abbrev pub ping_first : Bool → List (List ℕ)
-ping_first true = frame wire.Ping ∷ []
-ping_first false = []
+-- the ping with which a batch begins, where it is due
+abbrev pub ping_first : Bool → Option (List ℕ)
+ping_first true = Some (frame wire.Ping)
+ping_first false = None
 
--- the batch that begins with the ping, and takes what is next until it has so many frames
-abbrev pub batch : ℕ → Bool → Queue Message → Lanes EncodedData → Filled Message
-batch size due control lanes =
-    filled (λ _. None) control.closed (size - length (ping_first due)) (ping_first due) control.items lanes
-
--- a kill that is met leaves no batch; without a frame nothing is ready, or no more comes
-abbrev pub gathered_as : Bool → List (List ℕ) → Bool → Gathered
-gathered_as true frames ended = gathered.Killed
-gathered_as false (f ∷ fs) ended = gathered.Batch (f ∷ fs)
-gathered_as false [] true = gathered.Disconnected
-gathered_as false [] false = gathered.Nothing
-
-abbrev pub gathered_of : Queue Message → Filled Message → Gathered
-gathered_of control f = gathered_as f.killed f.frames (has_ended control.closed f.lanes)
-
--- what a batch from these queues comes to; where the router holds no relay, no more comes
-abbrev pub gathered_over : ℕ → Bool → Queue Message → Option (Lanes EncodedData) → Gathered
-gathered_over size due control None = gathered.Disconnected
-gathered_over size due control (Some lanes) = gathered_of control (batch size due control lanes)
+-- what a batch of so many frames comes to
+abbrev pub gathered_for : ℕ → Bool → Queue Message → Option (Lanes EncodedData) → Gathered
+gathered_for size due control lanes =
+    gathered_over (λ _. None) control.closed size (ping_first due) control.items lanes
 
 -- the control then
-abbrev pub control_over : ℕ → Bool → Queue Message → Option (Lanes EncodedData) → Queue Message
-control_over size due control None = control
-control_over size due control (Some lanes) = with_items control (batch size due control lanes).control
+abbrev pub control_for : ℕ → Bool → Queue Message → Option (Lanes EncodedData) → Queue Message
+control_for size due control lanes =
+    with_items control (control_over (λ _. None) control.closed size (ping_first due) control.items lanes)
 
 -- ---- how far it is
 
@@ -66,16 +51,10 @@ stage_by (stage.Running ping_at) pause lanes now = stage.Running (cond (nat_le p
 
 -- the control then: a connection that runs takes from it
 abbrev pub control_by : Stage → ℕ → Queue Message → Option (Lanes EncodedData) → ℕ → Queue Message
-control_by (stage.Running ping_at) size control lanes now = control_over size (nat_le ping_at now) control lanes
+control_by (stage.Running ping_at) size control lanes now = control_for size (nat_le ping_at now) control lanes
 control_by _ size control lanes now = control
 
 module _ {P : Type 0} where
-  module _ (cmp : P → P → Ordering) where
-    -- the router then
-    abbrev pub router_over : ℕ → Bool → Queue Message → Routes P → ℕ → Option (Lanes EncodedData) → Routes P
-    router_over size due control r conn None = r
-    router_over size due control r conn (Some lanes) = with_relay_at cmp r conn (batch size due control lanes).lanes
-
   -- ---- the answer
 
   -- a batch of which the link took so many frames
@@ -95,7 +74,7 @@ module _ {P : Type 0} where
   sent_by stage.Waiting peer size control None now written = stepped.Idle
   sent_by stage.Waiting peer size control (Some l) now written = stepped.Running
   sent_by (stage.Running ping_at) peer size control lanes now written =
-      sent_as peer (nat_le ping_at now) written (gathered_over size (nat_le ping_at now) control lanes)
+      sent_as peer (nat_le ping_at now) written (gathered_for size (nat_le ping_at now) control lanes)
 
   -- ---- what is left
 
@@ -111,7 +90,7 @@ module _ {P : Type 0} where
   module _ (cmp : P → P → Ordering) where
     abbrev pub router_by : Stage → ℕ → Queue Message → Routes P → ℕ → Option (Lanes EncodedData) → ℕ → Routes P
     router_by (stage.Running ping_at) size control r conn lanes now =
-        router_over cmp size (nat_le ping_at now) control r conn lanes
+        router_over (λ _. None) control.closed size (ping_first (nat_le ping_at now)) control.items cmp r conn lanes
     router_by _ size control r conn lanes now = r
 
   -- ---- a step, by what the link took

@@ -1,8 +1,8 @@
 -- What the sending half of a connection finds to do: the batch that begins with one frame or none, and takes what is next until it is full.
-use Rattle.std.specs.Prelude.{ℕ, ◌-◌, Bool, true, false, List, [], ◌∷◌, length, Option, Some, None}
+use Rattle.std.specs.Prelude.{ℕ, ◌-◌, Bool, true, false, ◌||◌, List, [], ◌∷◌, length, slice_get, Option, Some, None, is_some}
 use Rattle.std.specs.declared.cmp.Ordering.{Ordering}
 use Rattle.p2p_flow.specs.Lanes.{Lanes}
-use Rattle.p2p_flow_connection.specs.Batching.{Filled, filled, has_ended}
+use Rattle.p2p_flow_connection.specs.Batching.{Filled, filled, has_ended, next_of}
 use Rattle.p2p_router.specs.Connections.{with_relay_at}
 use Rattle.p2p_router.specs.Routes.{Routes}
 use Rattle.p2p_wire.specs.declared.encoded.EncodedData.{EncodedData}
@@ -43,3 +43,14 @@ module _ {C : Type 0} (frame_of : C → Option (List ℕ)) (ended : Bool) (size 
   abbrev pub router_over : {P : Type 0} → (P → P → Ordering) → Routes P → ℕ → Option (Lanes EncodedData) → Routes P
   router_over cmp r conn None = r
   router_over cmp r conn (Some lanes) = with_relay_at cmp r conn (batch frame_of ended size first control lanes).lanes
+
+-- ---- whether there is something to do
+
+abbrev pub is_nothing : Gathered → Bool
+is_nothing gathered.Nothing = true
+is_nothing _ = false
+
+-- a frame is first, or something is next; where the router holds no relay, the end is
+abbrev pub has_work : {C : Type 0} → Bool → Option (List ℕ) → List C → Option (Lanes EncodedData) → Bool
+has_work ended first control None = true
+has_work ended first control (Some lanes) = is_some first || is_some (next_of (slice_get control 0) ended lanes)

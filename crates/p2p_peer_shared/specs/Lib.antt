@@ -1,2 +1,4 @@
+pub mod Beginning
 pub mod Gathering
+pub mod Hearing
 pub mod Routing

@@ -5,11 +5,14 @@ ghost use Rattle.p2p_runtime.specs.Streams.{Rose};
 ghost use Rattle.p2p_tracker_directory.specs.Reserved.{peer_of};
 ghost use Rattle.p2p_base.specs.Queue.{empty_queue, closed_queue};
 ghost use Rattle.p2p_flow.specs.Lanes.{empty_lanes};
-ghost use Rattle.p2p_peer.specs.Beginning.{ping_rate, limits_of, IsEmptyInbox, IsNew};
-ghost use Rattle.p2p_peer.specs.Connection.{settled, waiting_after, put_to_router, told_to_router, told_to_tracker, desk_after, way_after, with_closed, router_after};
+ghost use Rattle.p2p_peer.specs.Beginning.{limits_of, IsNew};
+ghost use Rattle.p2p_peer.specs.Connection.{settled, waiting_after, told_to_router, told_to_tracker, desk_after, way_after, router_after};
 ghost use Rattle.p2p_peer.specs.Ready.{is_idle, sends, receives};
-ghost use Rattle.p2p_peer.specs.Receiving.{receive_answer, after_receive, arrived_then, receive_fails, heard_in, left_waiting, reads_from};
+ghost use Rattle.p2p_peer.specs.Receiving.{receive_answer, after_receive, arrived_then, receive_fails, heard_in, reads_from};
 ghost use Rattle.p2p_peer.specs.Sending.{send_answer, after_send, router_sent, written_in, frames_in, send_fails};
+ghost use Rattle.p2p_peer_shared.specs.Beginning.{IsEmptyInbox};
+ghost use Rattle.p2p_peer_shared.specs.Hearing.{left_waiting};
+ghost use Rattle.p2p_peer_shared.specs.Routing.{put_to_router, with_closed};
 ghost use Rattle.p2p_tracker_mailbox.specs.Mailboxes.{with_message_in};
 ghost use Rattle.p2p_tracker_mailbox.specs.declared.message.Message.TheVariants as tracker_message;
 ghost use Rattle.p2p_router.specs.declared.message.Message.TheVariants as router_message;
@@ -17,10 +20,10 @@ ghost use Rattle.p2p_router.specs.declared.message.Message.TheVariants as router
 use super::live::{Live, Stage};
 use super::{Config, Limits, Mailbox, Stepped};
 use p2p_base::{NoRoom, PublicKey};
-use p2p_flow::Relay;
 use p2p_flow_connection::{Inbounds, Inbox};
+use p2p_peer_shared::{close_relay, half_quota, put_ready, put_release};
 use p2p_router::{self as router, Messenger};
-use p2p_runtime::{Link, Quota, RateLimiter};
+use p2p_runtime::{Link, RateLimiter};
 use p2p_tracker_directory::Reservation;
 use p2p_tracker_mailbox as tracker;
 use std::alloc::{AllocError, Global};
@@ -55,61 +58,6 @@ impl<P> Model for Actor<P> {
     ghost invariant = { λ a. (1 ≤ a.limits.mailbox_size) × (1 ≤ a.limits.send_batch_size) };
 }
 
-// Closes the relay of a connection, where the router holds one.
-fn close_relay<P: PublicKey>(router: &mut router::Actor<P>, conn: u64)
-    ensures { router.new ≡ with_closed P.cmp router.old conn }
-{
-    match router.relay(conn) {
-        Some(relay) => relay.close(),
-        None => {}
-    }
-}
-
-// Tells the router to release a peer.
-fn put_release<P: PublicKey>(messenger: &mut Messenger<P>, peer: P) -> Result<(), AllocError>
-    ensures { OnOk result (messenger.new ≡ put_to_router messenger.old (router_message.Release peer)) }
-{
-    match messenger.mailbox() {
-        Some(mailbox) => {
-            mailbox.release(peer)?;
-            Ok(())
-        }
-        None => Ok(()),
-    }
-}
-
-// Tells the router that a connection is ready.
-fn put_ready<P: PublicKey>(
-    alloc: Global,
-    messenger: &mut Messenger<P>,
-    peer: P,
-    size: usize,
-    conn: u64,
-) -> Result<(), AllocError>
-    requires { 1 ≤ size }
-    ensures { OnOk result (messenger.new ≡ put_to_router messenger.old
-        (router_message.Ready peer (empty_lanes size) conn)) }
-{
-    let relay = Relay::new(alloc, size)?;
-    match messenger.mailbox() {
-        Some(mailbox) => match mailbox.ready(peer, relay, conn) {
-            Ok(_) => Ok(()),
-            Err(_) => Err(AllocError),
-        },
-        None => Ok(()),
-    }
-}
-
-// The quota of the pings that come.
-fn ping_quota(ping_frequency: u64) -> Quota
-    ensures { result ≡ ping_rate ping_frequency }
-{
-    let Some(quota) = Quota::with_period((ping_frequency / 2).max(1)) else {
-        unreachable!()
-    };
-    quota
-}
-
 // What a new connection has.
 fn begin<P: PublicKey>(
     alloc: Global,
@@ -118,7 +66,7 @@ fn begin<P: PublicKey>(
     requires { 1 ≤ cfg.mailbox_size }
     ensures limits { IfOk result (λ r. r.0 ≡ limits_of cfg) }
     ensures control { IfOk result (λ r. r.1 ≡ empty_queue cfg.mailbox_size) }
-    ensures inbox { IfOk result (λ r. IsEmptyInbox cfg r.2) }
+    ensures inbox { IfOk result (λ r. IsEmptyInbox cfg.channels r.2) }
 {
     let limits = Limits {
         mailbox_size: cfg.mailbox_size,
@@ -151,7 +99,7 @@ impl<P: PublicKey> Actor<P> {
         ensures actor { IfOk result (λ a. IsNew cfg conn reservation a) }
         ensures no_room { IfErr result (λ e. e.0 ≡ reservation) }
     {
-        let pings = RateLimiter::new(ping_quota(cfg.ping_frequency));
+        let pings = RateLimiter::new(half_quota(cfg.ping_frequency));
         let Ok((limits, control, inbox)) = begin(alloc, cfg) else {
             return Err(NoRoom(reservation));
         };

@@ -13,5 +13,4 @@ pub use config::{Config, Limits};
 pub use error::Error;
 pub use live::{Live, Stage};
 pub use mailbox::{Mailbox, Message};
-pub use sending::Gathered;
 pub use stepped::Stepped;

@@ -1,18 +1,19 @@
 //! What the receiving half of a connection takes, and what becomes of it.
 ghost use Rattle.std.specs.Prelude.{◌≡◌, ◌≤◌, [], true, false, None, IfOk, IfSome, OnOk, IsSome, IsTrue, is_err};
-ghost use Rattle.std.specs.Option.{option_map};
 ghost use Rattle.p2p_flow_connection.specs.Delivering.{after_deliver};
+ghost use Rattle.p2p_peer_shared.specs.Hearing.{left_waiting};
 ghost use Rattle.p2p_runtime.specs.Streams.{Rose};
 ghost use Rattle.p2p_tracker_directory.specs.Reserved.{peer_of};
 ghost use Rattle.p2p_wire.specs.Frame.{decode_frame};
-ghost use Rattle.p2p_peer.specs.Receiving.{pinged, received_as, ping_taken, ping_admitted, with_ping, with_message, with_decoded, with_heard, with_held, received, receive_fails, heard_in, reads, left_waiting, is_running as is_running_at};
+ghost use Rattle.p2p_peer.specs.Receiving.{pinged, received_as, ping_taken, ping_admitted, with_ping, with_message, with_decoded, with_heard, with_held, received, receive_fails, heard_in, reads, is_running as is_running_at};
 ghost use Rattle.p2p_peer.specs.declared.peer.stepped.Stepped.TheVariants as stepped;
 
 use super::live::{Live, Stage};
 use super::{Error, Stepped};
 use bytes::Bytes;
 use p2p_base::{List, PublicKey};
-use p2p_flow_connection::{self as connection, Delivered, Inbounds, Inbox};
+use p2p_flow_connection::{self as connection, Delivered, Inbounds};
+use p2p_peer_shared::{copy_of, held_copy};
 use p2p_runtime::{Failed, Link};
 use p2p_wire::{CodecError, Data, Message};
 use std::alloc::{AllocError, Global};
@@ -68,16 +69,6 @@ fn message_answer<P: PublicKey>(
             delivered,
         },
     }
-}
-
-// An equal message.
-fn copy_of(message: &Data) -> Result<Data, AllocError>
-    ensures { IfOk result (λ m. m ≡ message.now) }
-{
-    Ok(Data {
-        channel: message.channel,
-        message: message.message.clone()?,
-    })
 }
 
 impl<P: PublicKey> Live<P> {
@@ -217,15 +208,5 @@ impl<P: PublicKey> Live<P> {
                 self.take_heard(alloc, inbounds, limit, heard, now)
             }
         }
-    }
-}
-
-// An equal message to the one that is held.
-fn held_copy<P: Drop>(inbox: &Inbox<P>) -> Result<Option<Data>, AllocError>
-    ensures { IfOk result (λ m. m ≡ option_map (λ h. h.1) inbox.now.held) }
-{
-    match inbox.held() {
-        Some(held) => Ok(Some(copy_of(&held.1)?)),
-        None => Ok(None),
     }
 }

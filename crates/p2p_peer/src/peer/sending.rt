@@ -1,10 +1,8 @@
 //! What the sending half of a connection takes and writes.
-ghost use Rattle.std.specs.Prelude.{◌≡◌, ◌≤◌, ◌<◌, ◌+◌, ◌++◌, false, cond, if◌then◌else◌, length, take as first_of, IfOk, OnOk, IsTrue};
-ghost use Rattle.p2p_base.specs.Queue.{with_items};
-ghost use Rattle.p2p_flow_connection.specs.Batching.{has_ended};
+ghost use Rattle.std.specs.Prelude.{◌≡◌, ◌≤◌, ◌+◌, ◌++◌, false, cond, if◌then◌else◌, length, take as first_of, IfOk, OnOk, IsTrue};
 ghost use Rattle.p2p_runtime.specs.Streams.{Rose};
 ghost use Rattle.p2p_router.specs.Connections.{relay_at};
-ghost use Rattle.p2p_peer.specs.Sending.{ping_first, batch, gathered_as, gathered_of, gathered_over, control_over, router_over, wrote, sent_as, sent_by, stage_by, with_stage, control_by, router_by, frames_in, written_in, send_fails};
+ghost use Rattle.p2p_peer.specs.Sending.{ping_first, wrote, sent_as, sent_by, stage_by, with_stage, control_by, router_by, frames_in, written_in, send_fails};
 ghost use Rattle.p2p_tracker_directory.specs.Reserved.{peer_of};
 ghost use Rattle.p2p_peer.specs.declared.peer.live.Stage.TheVariants as stage;
 ghost use Rattle.p2p_peer.specs.declared.peer.stepped.Stepped.TheVariants as stepped;
@@ -14,116 +12,21 @@ use super::receiving::ended;
 use super::{Error, Limits, Mailbox, Stepped};
 use bytes::Bytes;
 use p2p_base::{List, PublicKey};
-use p2p_flow::Relay;
-use p2p_flow_connection::{self as connection, Control, Outbox};
+use p2p_flow_connection as connection;
+use p2p_peer_shared::{Gathered, gather_for, write_frames};
 use p2p_router::Actor;
-use p2p_runtime::{Link, LinkFault};
-use p2p_wire::{EncodedData, Message};
+use p2p_runtime::Link;
+use p2p_wire::Message;
 use std::alloc::{AllocError, Global};
 
-/// What there is to do for the sending half of a connection that runs.
-#[derive(Drop)]
-pub enum Gathered {
-    /// No input is ready.
-    Nothing,
-    /// A kill was met.
-    Killed,
-    /// No more comes.
-    Disconnected,
-    /// A batch is to be written.
-    Batch(List<Bytes>),
-}
-
-// A batch that begins with a ping where one is due.
-fn begin_batch(alloc: Global, size: usize, due: bool) -> Result<Outbox, AllocError>
-    ensures { IfOk result (λ o. o ≡ record { frames = ping_first due; size = size }) }
+// The ping with which a batch begins, where one is due.
+fn first_ping(alloc: Global, due: bool) -> Result<Option<Bytes>, AllocError>
+    ensures { IfOk result (λ f. f ≡ ping_first due) }
 {
-    let mut outbox = Outbox::new(alloc, size);
-    if due {
-        outbox.push(Message::Ping.encode(alloc)?)?;
+    if !due {
+        return Ok(None);
     }
-    Ok(outbox)
-}
-
-// What a batch comes to, by whether a kill was met, its frames, and whether no more comes.
-fn judge(killed: bool, frames: Vec<Bytes>, ended: bool) -> Gathered
-    ensures { result ≡ gathered_as killed frames.items ended }
-{
-    if killed {
-        return Gathered::Killed;
-    }
-    if !frames.is_empty() {
-        return Gathered::Batch(List::new(frames));
-    }
-    if ended {
-        Gathered::Disconnected
-    } else {
-        Gathered::Nothing
-    }
-}
-
-// Fills a batch from these queues.
-fn gather(
-    alloc: Global,
-    control: &mut Mailbox,
-    relay: &mut Relay<EncodedData>,
-    size: usize,
-    due: bool,
-) -> Result<Gathered, AllocError>
-    ensures value { IfOk result (λ g. g ≡ gathered_of control.old (batch size due control.old relay.old)) }
-    ensures control { OnOk result (control.new
-        ≡ with_items control.old (batch size due control.old relay.old).control) }
-    ensures relay { OnOk result (relay.new ≡ (batch size due control.old relay.old).lanes) }
-{
-    let mut outbox = begin_batch(alloc, size, due)?;
-    let killed = outbox.fill(alloc, control, relay)?;
-    let ended = control.closed() || relay.is_closed();
-    Ok(judge(killed, outbox.drain(), ended))
-}
-
-// Fills a batch for a connection from its control and its relay. Where the router holds no relay for it, no more comes.
-pub(crate) fn gather_for<P: PublicKey>(
-    alloc: Global,
-    control: &mut Mailbox,
-    router: &mut Actor<P>,
-    conn: u64,
-    size: usize,
-    due: bool,
-) -> Result<Gathered, AllocError>
-    ensures value { IfOk result (λ g. g ≡ gathered_over size due control.old (relay_at P.cmp router.old conn)) }
-    ensures control { OnOk result (control.new ≡ control_over size due control.old (relay_at P.cmp router.old conn)) }
-    ensures router { OnOk result (router.new ≡ router_over P.cmp size due control.old router.old conn
-        (relay_at P.cmp router.old conn)) }
-{
-    match router.relay(conn) {
-        Some(relay) => gather(alloc, control, relay, size, due),
-        None => Ok(Gathered::Disconnected),
-    }
-}
-
-// Writes frames to a link, in order, up to the first fault. Gives how many were written.
-pub(crate) fn write_frames<L: Link>(
-    alloc: Global,
-    link: &mut L,
-    frames: &[Bytes],
-) -> Result<usize, AllocError>
-    ensures within { IfOk result (λ n. n ≤ length frames.now) }
-    ensures written { IfOk result (λ n. L.in_flight link.new ≡ L.in_flight link.old ++ first_of n frames.now) }
-    ensures fault { IfOk result (λ n. n < length frames.now → Rose (L.faults_of link.old) (L.faults_of link.new)) }
-    ensures no_fault { IfOk result (λ n. n ≡ length frames.now → L.faults_of link.new ≡ L.faults_of link.old) }
-    ensures count { L.faults_of link.old ≤ L.faults_of link.new }
-    ensures waiting { L.waiting link.new ≡ L.waiting link.old }
-{
-    let mut written = 0;
-    for frame in frames {
-        match link.write(alloc, frame.clone()?) {
-            Ok(()) => {}
-            Err(LinkFault::Failed) => return Ok(written),
-            Err(LinkFault::Memory) => return Err(AllocError),
-        }
-        written += 1;
-    }
-    Ok(written)
+    Ok(Some(Message::Ping.encode(alloc)?))
 }
 
 // Writes a batch to a link.
@@ -194,7 +97,8 @@ impl<P: PublicKey> Live<P> {
                 self.stage = Stage::Running(next_ping(due, ping_at, limits, now));
                 let peer = *self.reservation.metadata().public_key();
                 let size = limits.send_batch_size;
-                let gathered = gather_for(alloc, control, router, conn, size, due)?;
+                let first = first_ping(alloc, due)?;
+                let gathered = gather_for(alloc, control, router, conn, first, size)?;
                 send_gathered(alloc, link, peer, due, gathered)
             }
         }
