@@ -129,7 +129,7 @@ class Promises(unittest.TestCase):
 
     def test_what_is_there_is_found(self):
         cells = ['`World::run`: `lawful`, `accounted`', '`World::new`, `World::run`: `stands`', '`stands` of `World::new` and `apply`',
-                 '`fits` in `p2p_net/src/configs.rt`', '`Router::take_all`: `over`; `release`: `peers`, `over`',
+                 '`fits` in `p2p_net_node/src/configs.rt`', '`Router::take_all`: `over`; `release`: `peers`, `over`',
                  '`Sender::send`: `left` of `IsSendOf`, and `unsent`', '`IsCheckOf` in `p2p_flow_senders/specs/Senders.antt`']
         self.assertEqual(lacking_in(cells), [(cell, []) for cell in cells])
 

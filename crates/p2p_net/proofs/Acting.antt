@@ -26,35 +26,36 @@ use Rattle.p2p_log_laws.proofs.OneConnection.{connections_are_one}
 use Rattle.p2p_net_links.specs.Stands.{LinksStand}
 use Rattle.p2p_net_links.specs.declared.links.Links.{Links}
 use Rattle.p2p_net_tracker.specs.Stands.{AsksRun}
-use Rattle.p2p_net.specs.Places.{Part, same_part, at, parts_of, parts_named, names_links, places_at, same_place, names, node_of}
+use Rattle.p2p_net_node.specs.Places.{Part, same_part, at, parts_of, parts_named, names_links, places_at, same_place, names, node_of}
 use Rattle.p2p_net.specs.Acts.{NodeDoes}
 use Rattle.p2p_net.specs.Events.{OneDoes, Meets, DoesOn, WorldDoes}
-use Rattle.p2p_net.specs.Meetings.{meeting_of}
-use Rattle.p2p_net.specs.declared.meeting.Meeting.{Meeting}
-use Rattle.p2p_net.specs.declared.meeting.Meeting.TheVariants as meeting
-use Rattle.p2p_net.specs.Stands.{NodeStands, WorldStands}
-use Rattle.p2p_net.specs.declared.node.Node.{Node}
-use Rattle.p2p_net.proofs.Nodes.{slice_get-set, below}
-use Rattle.p2p_net.proofs.Frames.{part_frame}
-use Rattle.p2p_net.proofs.Performing.{asked, Performs, Simulates}
-use Rattle.p2p_net.proofs.DialAnswers.{refuse_performs}
-use Rattle.p2p_net.proofs.Arrivals.{link_simulates}
-use Rattle.p2p_net.proofs.Exchanged.{finish_simulates}
-use Rattle.p2p_net.proofs.Resolving.{resolve_performs}
-use Rattle.p2p_net.proofs.Calling.{register_performs, start_performs, read_performs}
-use Rattle.p2p_net.proofs.Closing.{close_performs}
-use Rattle.p2p_net.proofs.Checking.{check_performs, send_checked_performs}
-use Rattle.p2p_net.proofs.Offering.{send_performs}
-use Rattle.p2p_net.proofs.Dialing.{dialer_performs}
-use Rattle.p2p_net.proofs.Handshaking.{handshake_performs}
-use Rattle.p2p_net.proofs.Listened.{listener_performs}
+use Rattle.p2p_net_node.specs.Meetings.{meeting_of}
+use Rattle.p2p_net_node.specs.declared.meeting.Meeting.{Meeting}
+use Rattle.p2p_net_node.specs.declared.meeting.Meeting.TheVariants as meeting
+use Rattle.p2p_net_node.specs.Stands.{NodeStands, WorldStands}
+use Rattle.p2p_net_node.specs.declared.node.Node.{Node}
+use Rattle.p2p_net_node.proofs.Nodes.{slice_get-set, below}
+use Rattle.p2p_net_node.proofs.Frames.{part_frame}
+use Rattle.p2p_net_node.proofs.Performing.{asked, Performs, Simulates}
+use Rattle.p2p_net_dialing.proofs.DialAnswers.{refuse_performs}
+use Rattle.p2p_net_dialing.proofs.Arrivals.{link_simulates}
+use Rattle.p2p_net_dialing.proofs.Exchanged.{finish_simulates}
+use Rattle.p2p_net_dialing.proofs.Resolving.{resolve_performs}
+use Rattle.p2p_net_calls.proofs.Calling.{register_performs, start_performs, read_performs}
+use Rattle.p2p_net_calls.proofs.Closing.{close_performs}
+use Rattle.p2p_net_calls.proofs.Checking.{check_performs, send_checked_performs}
+use Rattle.p2p_net_calls.proofs.Offering.{send_performs}
+use Rattle.p2p_net_dialing.proofs.Dialing.{dialer_performs}
+use Rattle.p2p_net_dialing.proofs.Handshaking.{handshake_performs}
+use Rattle.p2p_net_dialing.proofs.Listened.{listener_performs}
 use Rattle.p2p_log_laws.proofs.HandedSides.{attempt_dialed, handshake_dialed}
-use Rattle.p2p_net.proofs.SpawnerStep.{spawner_performs}
-use Rattle.p2p_net.proofs.Stepping.{route_performs}
-use Rattle.p2p_net.proofs.Trying.{attempt_performs}
-use Rattle.p2p_net.proofs.Tracking.{ask_performs, answer_performs, next_performs, tracker_performs}
-use Rattle.p2p_net.proofs.Sending.{send_step_performs}
-use Rattle.p2p_net.proofs.RecvStep.{recv_step_performs}
+use Rattle.p2p_net_connecting.proofs.SpawnerStep.{spawner_performs}
+use Rattle.p2p_net_connecting.proofs.Stepping.{route_performs}
+use Rattle.p2p_net_dialing.proofs.Trying.{attempt_performs}
+use Rattle.p2p_net_calls.proofs.Asking.{ask_performs, answer_performs, next_performs}
+use Rattle.p2p_net_connecting.proofs.TrackerStep.{tracker_performs}
+use Rattle.p2p_net_connecting.proofs.Sending.{send_step_performs}
+use Rattle.p2p_net_connecting.proofs.RecvStep.{recv_step_performs}
 
 -- ---- acts that name one node
 

@@ -8,12 +8,12 @@ use Rattle.p2p_net_links.specs.Stands.{LinksStand}
 use Rattle.p2p_net_links.specs.declared.links.Links.{Links}
 use Rattle.p2p_net.specs.Acts.{NodeDoes}
 use Rattle.p2p_net.specs.Applying.{NodeApplies, NodeStandsWith}
-use Rattle.p2p_net.specs.Places as place
-use Rattle.p2p_net.specs.Places.{node_of}
-use Rattle.p2p_net.specs.Stands.{NodeStands}
-use Rattle.p2p_net.specs.declared.node.Node.{Node}
+use Rattle.p2p_net_node.specs.Places as place
+use Rattle.p2p_net_node.specs.Places.{node_of}
+use Rattle.p2p_net_node.specs.Stands.{NodeStands}
+use Rattle.p2p_net_node.specs.declared.node.Node.{Node}
 use Rattle.p2p_net.proofs.Acting.{node_performs}
-use Rattle.p2p_net.proofs.Performing.{Performs}
+use Rattle.p2p_net_node.proofs.Performing.{Performs}
 use Rattle.p2p_net.proofs.Records.{entry_of-effect}
 
 pub applied : (k : ℕ) (ev : Event) (x y : Node) (l ls : Links) (e : Entry) → NodeApplies k ev x y l ls e → NodeStandsWith k ev x y l ls e

@@ -15,19 +15,19 @@ use Rattle.p2p_log_rules.proofs.Facts.{events_of-append}
 use Rattle.p2p_net_queues.proofs.Meters.{latest_moment-entry}
 use Rattle.p2p_log_rules.proofs.Lawful.{IsLawful-nil, IsLawful-append}
 use Rattle.p2p_net_links.specs.declared.links.Links.{Links}
-use Rattle.p2p_net.specs.declared.node.Node.{Node}
-use Rattle.p2p_net.specs.Ready as ready
-use Rattle.p2p_net.specs.Stands.{WorldStands}
+use Rattle.p2p_net_node.specs.declared.node.Node.{Node}
+use Rattle.p2p_net_node.specs.Ready as ready
+use Rattle.p2p_net_node.specs.Stands.{WorldStands}
 use Rattle.p2p_net.specs.World.{WorldView, KeptStands, IsRecorded}
 use Rattle.p2p_net.specs.Refusals.{ApplyRefused}
 use Rattle.p2p_net.specs.declared.error.RunError.{RunError}
 use Rattle.p2p_net.specs.declared.error.RunError.TheVariants as error
 use Rattle.p2p_net_links.specs.Links.{no_links}
-use Rattle.p2p_net.specs.Places.{node_of}
+use Rattle.p2p_net_node.specs.Places.{node_of}
 use Rattle.p2p_net.specs.Events.{WorldDoes, WorldRecords}
 use Rattle.p2p_net.proofs.Acting.{simulates}
-use Rattle.p2p_net.proofs.Performing.{Simulates}
-use Rattle.p2p_net.proofs.Readying.{may_act-nodes}
+use Rattle.p2p_net_node.proofs.Performing.{Simulates}
+use Rattle.p2p_net_node.proofs.Readying.{may_act-nodes}
 
 event-effect : (configs : List Config) (log : List Entry) (v : Event) → (effect configs log v).event ≡ v
 unfolding effect

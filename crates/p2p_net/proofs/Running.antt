@@ -15,9 +15,9 @@ use Rattle.p2p_log_laws.proofs.AllLaws.{accounted}
 use Rattle.p2p_net.specs.declared.error.RunError.{RunError}
 use Rattle.p2p_net.specs.declared.error.RunError.TheVariants as error
 use Rattle.p2p_net.specs.World.{WorldView, Stands}
-use Rattle.p2p_net.specs.Stands.{WorldStands}
+use Rattle.p2p_net_node.specs.Stands.{WorldStands}
 use Rattle.p2p_net.specs.Refusals.{ApplyRefused, RunRefused}
-use Rattle.p2p_net.proofs.Faults.{take-step, event_fault-step, event_fault-end}
+use Rattle.p2p_net_node.proofs.Faults.{take-step, event_fault-step, event_fault-end}
 
 -- a world that the first events of a script made
 pub record RanFirst (configs : List Config) (script : List Event) (i : ℕ) (w : WorldView) : Type 0 where

@@ -11,12 +11,12 @@ use Rattle.p2p_log_rules.specs.Valid.{may_act}
 use Rattle.p2p_net_links.specs.Stands.{LinksStand}
 use Rattle.p2p_net_links.specs.declared.links.Links.{Links}
 use Rattle.p2p_net.specs.Acts.{NodeDoes}
-use Rattle.p2p_net.specs.Meetings.{meeting_of}
-use Rattle.p2p_net.specs.Places.{node_of}
-use Rattle.p2p_net.specs.Stands.{NodeStands}
+use Rattle.p2p_net_node.specs.Meetings.{meeting_of}
+use Rattle.p2p_net_node.specs.Places.{node_of}
+use Rattle.p2p_net_node.specs.Stands.{NodeStands}
 use Rattle.p2p_net.specs.declared.error.NodeError.{NodeError}
 use Rattle.p2p_net.specs.declared.error.NodeError.TheVariants as error
-use Rattle.p2p_net.specs.declared.node.Node.{Node}
+use Rattle.p2p_net_node.specs.declared.node.Node.{Node}
 
 -- the entry k of an event at the node n has the row that its act comes to
 abbrev pub NodeRecords : ℕ → ℕ → Event → Node → Node → Links → Links → Entry → Type 0

@@ -6,12 +6,12 @@ use Rattle.p2p_log_rules.specs.declared.row.Row.{Row}
 use Rattle.p2p_log_rules.specs.Effect.{entry_of}
 use Rattle.p2p_net_links.specs.declared.links.Links.{Links}
 use Rattle.p2p_net.specs.Acts.{NodeDoes}
-use Rattle.p2p_net.specs.declared.node.Node.{Node}
-use Rattle.p2p_net.specs.Finishing.{IsFinished}
-use Rattle.p2p_net.specs.Linking.{IsLinked}
-use Rattle.p2p_net.specs.Meetings.{meeting_of}
-use Rattle.p2p_net.specs.declared.meeting.Meeting.{Meeting}
-use Rattle.p2p_net.specs.declared.meeting.Meeting.TheVariants as meeting
+use Rattle.p2p_net_node.specs.declared.node.Node.{Node}
+use Rattle.p2p_net_dialing.specs.Finishing.{IsFinished}
+use Rattle.p2p_net_dialing.specs.Linking.{IsLinked}
+use Rattle.p2p_net_node.specs.Meetings.{meeting_of}
+use Rattle.p2p_net_node.specs.declared.meeting.Meeting.{Meeting}
+use Rattle.p2p_net_node.specs.declared.meeting.Meeting.TheVariants as meeting
 
 -- what the entry k of an event that names the node n alone comes to
 abbrev pub OneDoes : ℕ → ℕ → Event → List Node → List Node → Links → Links → Row → Type 0

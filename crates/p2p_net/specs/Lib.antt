@@ -1,17 +1,5 @@
 pub mod Acts
 pub mod Applying
-pub mod Connecting
-pub mod Ending
 pub mod Events
-pub mod Finishing
-pub mod Linking
-pub mod Meetings
-pub mod Offering
-pub mod Places
-pub mod Ready
-pub mod Receiving
 pub mod Refusals
-pub mod Routing
-pub mod Spawning
-pub mod Stands
 pub mod World

@@ -1,17 +1,16 @@
 //! What each act does in a world: at the node that it names, or at the two that it brings together.
-ghost use Rattle.std.specs.Prelude.{◌≡◌, ◌==◌, ℕ, ◌<◌, ◌≤◌, false, length, slice_get, IfOk, OnOk, IsTrue, Some};
-ghost use Rattle.p2p_net.specs.Ready.{IsReady, MayPerform};
+ghost use Rattle.std.specs.Prelude.{◌≡◌, ℕ, ◌<◌, ◌≤◌, length, slice_get, IfOk, Some};
+ghost use Rattle.p2p_net_node.specs.Ready.{IsReady, MayPerform};
 ghost use Rattle.p2p_net.specs.Events.{OneRecords, Meets, MeetingRecords, WorldRecords};
-ghost use Rattle.p2p_net.specs.Meetings.{MeetsThere};
-ghost use Rattle.p2p_net.specs.declared.node.Node.{Node};
+ghost use Rattle.p2p_net_node.specs.Meetings.{MeetsThere};
+ghost use Rattle.p2p_net_node.specs.declared.node.Node.{Node};
 
-use crate::finishing::finish;
-use crate::linking::link;
-use crate::meeting::{Meeting, meeting_of};
-use crate::node::{Node, entry_of};
+use crate::applying::{apply_to, entry_of};
 use p2p_log::{Entry, Event};
 use p2p_log_rules::Row;
+use p2p_net_dialing::{finish, link};
 use p2p_net_links::Links;
+use p2p_net_node::{Meeting, Node, meeting_of};
 use std::alloc::{AllocError, Global};
 
 /// Does an event at this node, the one that it names.
@@ -28,7 +27,7 @@ fn apply_at(
     requires numbers { (n : ℕ) (x : Node) → slice_get nodes.old.items n ≡ Some x → x.router.number ≡ n }
     ensures { IfOk result (λ e. OneRecords entry node event.now nodes.old.items nodes.new.items links.old links.new e) }
 {
-    match nodes[node as usize].apply(alloc, entry, event, links) {
+    match apply_to(&mut nodes[node as usize], alloc, entry, event, links) {
         Ok(made) => Ok(made),
         Err(_) => Err(AllocError),
     }
@@ -75,7 +74,7 @@ fn meet_at(
 
 /// Does an event, and gives the entry that comes of it: at this node, which it names, or at the two that it brings together, the
 /// dialing one first.
-pub fn perform(
+pub(crate) fn perform(
     alloc: Global,
     nodes: &mut Vec<Node>,
     links: &mut Links,

@@ -2,30 +2,20 @@
 //! of its log.
 #![tactic(auto)]
 
-mod calls;
-mod configs;
-mod connecting;
-mod ending;
+mod applying;
 mod error;
 mod events;
-mod finishing;
-mod linking;
-mod meeting;
-mod node;
-mod offers;
-mod receiving;
-mod spawning;
-mod steps;
+mod naming;
 mod valid;
 mod world;
 
-pub use crate::configs::fits;
+pub use crate::applying::apply_to;
 pub use crate::error::{NodeError, RunError};
-pub use crate::node::Node;
 pub use crate::world::World;
 pub use p2p_log::{
     Act, Asked, Cause, Config, End, Ended, Entry, Envelope, Event, Fate, Item, Outcome, Queue,
     Rate, Recipients, Reply, Report, Side,
 };
 pub use p2p_net_links::Links;
+pub use p2p_net_node::{Node, fits};
 pub use p2p_tracker_calls::gates::Reply as GatesReply;

@@ -1,9 +1,10 @@
 //! Whether an event may be asked for, after those before it.
-ghost use Rattle.std.specs.Prelude.{◌≡◌, ◌<◌, ◌^◌, ◌&&◌, Some, slice_get, length, nat_le};
-ghost use Rattle.p2p_net.specs.Ready.{capacity_by, names_spawner, names_dialer, names_listener, links_attempt, checks as checks_test, asks_set as asks_set_test, subscribes as subscribes_test, may_register as may_register_test, may_ask as may_ask_test, may_at as may_at_test, may_act as may_act_test};
+ghost use Rattle.std.specs.Prelude.{◌≡◌, ◌&&◌, slice_get, nat_le};
+ghost use Rattle.p2p_net_node.specs.Ready.{names_spawner, names_dialer, names_listener, links_attempt, checks as checks_test, asks_set as asks_set_test, subscribes as subscribes_test, may_register as may_register_test, may_ask as may_ask_test, may_act as may_act_test};
 
-use crate::node::{Node, node_of, other_of};
+use crate::naming::{node_of, other_of};
 use p2p_log::{Act, Asked, Entry, Event, Rate};
+use p2p_net_node::Node;
 
 /// Whether a channel may be registered at a node: it has not started, the channel is new, its quota admits something,
 /// sometimes, and what it would hold can be counted.
@@ -137,7 +138,7 @@ fn may_act(nodes: &[Node], log: &[Entry], act: &Act) -> bool
 }
 
 /// Whether an event may be asked for after these entries, of which the last was at the moment `last`.
-pub fn is_valid(nodes: &[Node], log: &[Entry], last: u64, event: &Event) -> bool
+pub(crate) fn is_valid(nodes: &[Node], log: &[Entry], last: u64, event: &Event) -> bool
     ensures { result ≡ (nat_le last event.now.at && may_act_test nodes.now log.now event.now.act) }
 {
     last <= event.at && may_act(nodes, log, &event.act)

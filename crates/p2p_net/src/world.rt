@@ -1,5 +1,5 @@
 //! The world: all nodes and links, with the log of what was asked of them and what came of it.
-ghost use Rattle.std.specs.Prelude.{◌≡◌, ◌+◌, ◌<◌, ◌≤◌, ◌++◌, ◌∷◌, [], List, length, slice_get, IfOk, OnOk, OnErr, IfErr, Err, true, false, Some, None};
+ghost use Rattle.std.specs.Prelude.{◌≡◌, ◌≤◌, ◌++◌, ◌∷◌, [], List, length, slice_get, IfOk, OnOk, OnErr, IfErr, Err, true, false, None};
 ghost use Rattle.std.specs.Option.{option_copied};
 ghost use Rattle.p2p_log.specs.declared.config.Config.{Config};
 ghost use Rattle.p2p_log.specs.declared.entry.Entry.{Entry};
@@ -9,21 +9,21 @@ ghost use Rattle.p2p_log_rules.specs.Lawful.{IsLawful};
 ghost use Rattle.p2p_log_rules.specs.Valid.{config_fault as config_fault_of, event_fault, is_valid_event};
 ghost use Rattle.p2p_log_laws.specs.Accounted.{IsAccounted};
 ghost use Rattle.p2p_net_links.specs.Links.{no_links};
-ghost use Rattle.p2p_net.specs.Places.{node_of as node_of_act};
-ghost use Rattle.p2p_net.specs.Ready.{may_apply, MayPerform};
-ghost use Rattle.p2p_net.specs.Stands.{WorldStands};
+ghost use Rattle.p2p_net_node.specs.Places.{node_of as node_of_act};
+ghost use Rattle.p2p_net_node.specs.Ready.{may_apply, MayPerform};
+ghost use Rattle.p2p_net_node.specs.Stands.{WorldStands};
 ghost use Rattle.p2p_net.specs.World.{IsRecorded, Stands};
 ghost use Rattle.p2p_net.specs.Refusals.{StartRefused, ApplyRefused, RunRefused};
 ghost use Rattle.p2p_net.specs.declared.error.RunError.TheVariants as error;
 
-use crate::configs::config_fault;
 use crate::error::RunError;
 use crate::events::perform;
-use crate::node::{Node, node_of};
+use crate::naming::node_of;
 use crate::valid::is_valid;
 use p2p_base::List;
 use p2p_log::{Config, Entry, Event, Report};
 use p2p_net_links::Links;
+use p2p_net_node::{Node, config_fault};
 use std::alloc::{AllocError, Global};
 use std::marker::Model;
 
@@ -57,7 +57,7 @@ impl Drop for World {
 impl Model for World {
     ghost use Rattle.std.specs.Prelude.{◌≡◌, false};
     ghost use Rattle.std.specs.Coded.{codes};
-    ghost use Rattle.p2p_net.specs.contracts.node.Node as node_type;
+    ghost use Rattle.p2p_net_node.specs.contracts.node.Node as node_type;
     ghost use Rattle.p2p_net.specs.World.{WorldView, KeptStands};
 
     ghost Value = { WorldView };

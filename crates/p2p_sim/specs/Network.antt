@@ -9,7 +9,7 @@ use Rattle.p2p_log_rules.specs.Lawful.{IsLawful}
 use Rattle.p2p_log_laws.specs.Accounted.{IsAccounted}
 use Rattle.p2p_sim_script.specs.Form.{script_of}
 use Rattle.p2p_sim_report.specs.ReportText.{report_text}
-use Rattle.p2p_net.specs.Stands.{WorldStands}
+use Rattle.p2p_net_node.specs.Stands.{WorldStands}
 use Rattle.p2p_net.specs.World.{WorldView}
 use Rattle.p2p_sim.specs.declared.program.Refusal.{Refusal}
 use Rattle.p2p_sim.specs.declared.program.Refusal.TheVariants as refusal

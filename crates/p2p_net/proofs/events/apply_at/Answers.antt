@@ -1,7 +1,7 @@
 use Rattle.std.proofs.Common.{◌≡◌, refl, subst, Some}
 use Rattle.std.specs.Prelude.{slice_get}
 use Rattle.p2p_net.specs.Acts.{NodeDoes}
-use Rattle.p2p_net.proofs.Nodes.{found}
+use Rattle.p2p_net_node.proofs.Nodes.{found}
 use Rattle.p2p_net.proofs.events.apply_at.Goals as goal
 
 pub returns-in-Ok : goal.returns-in-Ok
@@ -19,10 +19,10 @@ returns-in-Ok c =
         (
           x,
           (
-            c.apply.new.self,
+            c.apply_to.new.node,
             (
               there,
-              (refl, subst (λ m. NodeDoes c.args.entry m ev.at ev.seed ev.act x c.apply.new.self c.args.links.now c.apply.new.links made.0) number made.1.1),
+              (refl, subst (λ m. NodeDoes c.args.entry m ev.at ev.seed ev.act x c.apply_to.new.node c.args.links.now c.apply_to.new.links made.0) number made.1.1),
             ),
           ),
         ),

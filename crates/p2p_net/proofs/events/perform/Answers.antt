@@ -1,5 +1,5 @@
 use Rattle.std.proofs.Common.{sym, ◌∙◌}
-use Rattle.p2p_net.specs.Meetings.{meeting_of}
+use Rattle.p2p_net_node.specs.Meetings.{meeting_of}
 use Rattle.p2p_net.proofs.Meetings.{meeting_records}
 use Rattle.p2p_net.proofs.events.perform.Goals as goal
 

@@ -7,8 +7,8 @@ use Rattle.p2p_net_dialer.specs.Dialing.{gates_of}
 use Rattle.p2p_net_listener.specs.Listening.{IsNew as IsNewListening}
 use Rattle.p2p_net_connections.specs.Spawner.{no_spawning}
 use Rattle.p2p_net_tracker.specs.Begins.{IsNew}
-use Rattle.p2p_net.specs.Stands.{NodeStands}
-use Rattle.p2p_net.proofs.Starts.{absent, fits_there, each-append, node_new, links_new}
+use Rattle.p2p_net_node.specs.Stands.{NodeStands}
+use Rattle.p2p_net_node.proofs.Starts.{absent, fits_there, each-append, node_new, links_new}
 use Rattle.p2p_net.proofs.world.new_nodes.Goals as goal
 
 pub new-requires : goal.new-requires

@@ -1,7 +1,7 @@
 use Rattle.std.proofs.Common.{◌≡◌, ℕ, [], length, Some}
 use Rattle.std.specs.Prelude.{slice_get}
-use Rattle.p2p_net.specs.declared.node.Node.{Node}
-use Rattle.p2p_net.specs.Stands.{NodeStands}
+use Rattle.p2p_net_node.specs.declared.node.Node.{Node}
+use Rattle.p2p_net_node.specs.Stands.{NodeStands}
 use Rattle.p2p_net.proofs.world.new_nodes.Given as goal
 
 abbrev pub invariant-loop-number : goal.invariant-loop-number

@@ -1,5 +1,5 @@
 use Rattle.std.proofs.Common.{subst, ap, ◌∙◌}
-use Rattle.p2p_net.specs.Places.{node_of}
+use Rattle.p2p_net_node.specs.Places.{node_of}
 use Rattle.p2p_net.specs.Events.{WorldRecords}
 use Rattle.p2p_net.proofs.Records.{recorded}
 use Rattle.p2p_net.proofs.world.record.Goals as goal

@@ -2,10 +2,10 @@ use Rattle.std.proofs.Common.{◌≡◌, ◌≤◌, true, false, ap, sym, subst,
 use Rattle.p2p_log_rules.specs.Facts.{events_of, latest_moment}
 use Rattle.p2p_log_rules.specs.Effect.{effect}
 use Rattle.p2p_log_rules.specs.Valid.{is_valid_event}
-use Rattle.p2p_net.specs.Ready.{may_apply}
+use Rattle.p2p_net_node.specs.Ready.{may_apply}
 use Rattle.p2p_net.specs.Refusals.{ApplyRefused}
 use Rattle.p2p_net.specs.World.{WorldView, IsRecorded}
-use Rattle.p2p_net.proofs.Readying.{may_perform}
+use Rattle.p2p_net_node.proofs.Readying.{may_perform}
 use Rattle.p2p_net.proofs.Records.{valid_act, moment_is_late, tested, kept_more, refused}
 use Rattle.p2p_net.proofs.world.World.apply.Goals as goal
 

@@ -1,7 +1,7 @@
 use Rattle.std.proofs.Common.{ap, ◌∙◌}
 use Rattle.std.specs.Prelude.{slice_get}
 use Rattle.p2p_net.specs.World.{WorldView}
-use Rattle.p2p_net.proofs.Nodes.{copied_at}
+use Rattle.p2p_net_node.proofs.Nodes.{copied_at}
 use Rattle.p2p_net.proofs.world.World.node.Goals as goal
 
 pub returns : goal.returns

@@ -1,6 +1,6 @@
 use Rattle.std.proofs.Common.{rules}
 use Rattle.p2p_net.specs.Refusals.{RunRefused}
-use Rattle.p2p_net.proofs.Nodes.{found}
+use Rattle.p2p_net_node.proofs.Nodes.{found}
 use Rattle.p2p_net.proofs.Running.{RanFirst-none, RanFirst-step, lawful_run, only_run, accounted_run, stands_run, no_fault, refused_run}
 use Rattle.p2p_net.proofs.world.World.run.Goals as goal
 

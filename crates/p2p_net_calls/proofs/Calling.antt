@@ -1,0 +1,213 @@
+-- The calls of a node: registering, starting, sending and reading.
+use Rattle.std.proofs.Common.{◌≡◌, ℕ, Bool, ◌+◌, ◌*◌, ◌^◌, ◌<◌, true, false, cond, List, [], ◌∷◌, ◌++◌, length, refl, ap, sym, subst, ◌∙◌, arith, Option, Some, None}
+use Rattle.std.specs.Prelude.{filter, flat_map, slice_get, is_some, nat_lt, not, ◌&&◌}
+use Rattle.std.proofs.lemmas.Bool.{and_parts, not-true}
+use Rattle.std.proofs.lemmas.Bool.Decides.{nat_tests}
+use Rattle.p2p_log.specs.declared.config.Config.{Config}
+use Rattle.p2p_log.specs.declared.queue.Queue.{Queue}
+use Rattle.p2p_log.specs.declared.queue.Queue.TheVariants as queue
+use Rattle.p2p_log.specs.declared.item.Item.{Item}
+use Rattle.p2p_log.specs.declared.item.Item.TheVariants as item
+use Rattle.p2p_log.specs.declared.item.Envelope.{Envelope}
+use Rattle.p2p_log.specs.declared.entry.Entry.{Entry}
+use Rattle.p2p_log.specs.declared.entry.Reply.TheVariants as reply
+use Rattle.p2p_log.specs.declared.event.Rate.{Rate}
+use Rattle.p2p_log.specs.declared.event.Act.TheVariants as act
+use Rattle.p2p_log.specs.Lines.{line, name_of, placed, stands_in, ended_item}
+use Rattle.p2p_log_rules.specs.declared.row.Row.{Row}
+use Rattle.p2p_log_rules.specs.Facts.{events_of, has_started, registers_at, capacity_for, channels, capacity_in, sum_capacities, is_up}
+use Rattle.p2p_log_rules.specs.Effect.{only, row, effect, entry_of, start_row, read_row, oldest_read, recv_row, mailbox_size_at, router_capacity}
+use Rattle.p2p_log_rules.specs.Listening.{quota_of}
+use Rattle.p2p_log_rules.specs.Valid.{fits_usize, is_quota, may_register, may_act}
+use Rattle.p2p_log_rules.proofs.Channels.{is_up-asked, channels-asked}
+use Rattle.p2p_runtime.specs.QuotaStep.{IsQuota}
+use Rattle.p2p_log_laws.proofs.Untouched.{line-untouched}
+use Rattle.p2p_net_queues.specs.Tables.{waiting, popped_at}
+use Rattle.p2p_net_router.specs.Stands.{StandsFor}
+use Rattle.p2p_net_router.specs.declared.router.Router.{Router}
+use Rattle.p2p_net_channels.specs.declared.channels.Channels.{Channels}
+use Rattle.p2p_net_channels.specs.Channels.{registered_with, has_reader, is_message, message_first, taken_on, read_from}
+use Rattle.p2p_net_channels.specs.Stands.{ChannelsStand}
+use Rattle.p2p_net_queues.proofs.Holding.{holds_taken}
+use Rattle.p2p_net_channels.proofs.Changes.{channels_moved, same_channel}
+use Rattle.p2p_net_channels.proofs.Readers.{reader_is}
+use Rattle.p2p_net_channels.proofs.Registering.{channels_registered}
+use Rattle.p2p_net_links.specs.Stands.{LinksStand}
+use Rattle.p2p_net_links.specs.declared.links.Links.{Links}
+use Rattle.p2p_net_dialer.specs.Dialing.{started}
+use Rattle.p2p_net_dialer.specs.Stands.{DialerStands}
+use Rattle.p2p_net_dialer.proofs.Changes.{dialer_starts}
+use Rattle.p2p_net_node.specs.Places as place
+use Rattle.p2p_net_node.specs.Ready.{capacity_by}
+use Rattle.p2p_net_calls.specs.Calls.{Registers, Starts, ReadsOn, Reads}
+use Rattle.p2p_net_node.specs.Stands.{RouterStands, NodeStands}
+use Rattle.p2p_net_node.specs.declared.node.Node.{Node}
+use Rattle.p2p_net_node.proofs.EachPart.{with_parts, each_part, not_among}
+use Rattle.p2p_net_node.proofs.Frames.{links_kept}
+use Rattle.p2p_net_node.proofs.Receivers.{admits_apart, sends_apart, closes_apart}
+use Rattle.p2p_net_node.proofs.Routers.{hears_aside, RouterStands-moved, is_unbound-before}
+use Rattle.p2p_net_node.proofs.Performing.{asked, Performs, stays_performs, line-still}
+
+-- ---- register
+
+-- a rate that is tested is a quota
+quota_is : (rate : Rate) → is_quota rate ≡ true → IsQuota (quota_of rate)
+quota_is rate h =
+    let parts = and_parts (nat_lt 0 rate.burst) (nat_lt 0 rate.period) h in
+    record { some_burst = some rate.burst parts.0; some_period = some rate.period parts.1 }
+  where
+    some : (k : ℕ) → nat_lt 0 k ≡ true → 0 < k
+    some k is = grind (arith, nat_tests)
+
+pub register_performs : (configs : List Config) (log : List Entry) (at seed n c : ℕ) (rate : Rate) (x y : Node) (l links : Links) (r : Row) → NodeStands configs log n x → LinksStand configs log l
+    → may_act configs (events_of log) (act.Register c n rate) ≡ true → Registers c rate x y r → links ≡ l → Performs configs log (asked at seed (act.Register c n rate)) n y links r
+unfolding effect row
+register_performs configs log at seed n c rate x y l links r s t valid d kept =
+    let ev = asked at seed (act.Register c n rate) in
+    let e = effect configs log ev in
+    let k = capacity_by x rate in
+    let chan : ChannelsStand configs log n x.channels = s.each place.channels in
+    let rout : RouterStands configs log n x.router = s.each place.router in
+    let amount : k ≡ capacity_for (slice_get configs n) rate = ap (λ m. m * rate.burst) s.own.retained ∙ sym (ap (λ o. capacity_for o rate) s.own.config) in
+    let may : may_register configs (events_of log) c n rate ≡ true = (and_parts (nat_lt n (length configs)) (may_register configs (events_of log) c n rate) valid).1 in
+    let regs = channels configs log n in
+    let capacity = capacity_for (slice_get configs n) rate in
+    let halves =
+    and_parts ((not (has_started (events_of log) n) && not (is_some (capacity_in regs c))) && is_quota rate) (fits_usize capacity && fits_usize (mailbox_size_at configs n + (sum_capacities regs + capacity)))
+    (ap (λ l. ((not (has_started (events_of log) n) && not (is_some (capacity_in l c))) && is_quota rate) && (fits_usize capacity && fits_usize (mailbox_size_at configs n + (sum_capacities l + capacity)))) (channels-asked configs log n) ∙ may)
+    in
+    let named = and_parts (not (has_started (events_of log) n) && not (is_some (capacity_in regs c))) (is_quota rate) halves.0 in
+    let fresh = and_parts (not (has_started (events_of log) n)) (not (is_some (capacity_in regs c))) named.0 in
+    let early : is_up log n ≡ false = is_up-asked log n ∙ not-true (has_started (events_of log) n) fresh.0 in
+    let absent : capacity_in regs c ≡ None = none_in (capacity_in regs c) (not-true (is_some (capacity_in regs c)) fresh.1) in
+    let fit = (and_parts (fits_usize capacity) (fits_usize (mailbox_size_at configs n + (sum_capacities regs + capacity))) halves.1).1 in
+    let room : mailbox_size_at configs n + (x.channels.total + k) < 2 ^ 64 =
+    counted (mailbox_size_at configs n) (sum_capacities regs) capacity x.channels.total k chan.total amount fit
+    in
+    let parts : y ≡ record x { router = y.router; channels = registered_with x.channels c k (quota_of rate) } = d.1.0 in
+    let sub = d.1.1 in
+    let chan_is : y.channels ≡ registered_with x.channels c k (quota_of rate) = ap (λ (z : Node). z.channels) parts in
+    let conn_is : y.connections ≡ x.connections = ap (λ (z : Node). z.connections) parts in
+    let at_number : x.router.number ≡ n = rout.number in
+    record {
+      row_is = d.0 ∙ ap (λ j. only (reply.Capacity j)) amount;
+      node =
+          each_part configs log ev n x y (place.channels ∷ place.router ∷ []) s (subst (λ z. z ≡ with_parts (place.channels ∷ place.router ∷ []) x z) (sym parts) refl)
+          (λ p out. not_among (place.channels ∷ place.router ∷ []) p n n out) refl (
+            subst (ChannelsStand configs (log ++ e ∷ []) n) (sym chan_is)
+                (channels_registered configs log e n c k rate x.channels chan refl amount (chan.capacities c ∙ absent) room (λ f. line-kept_all log e (queue.Channel n f) refl refl refl) (quota_is rate named.1) (admits_apart configs log e n (act.Register c n rate) refl (λ d. refl)) (sends_apart log e n (act.Register c n rate) refl (refl, refl))),
+            (
+              RouterStands-moved configs log e n x.router y.router rout (hears_aside log e n (act.Register c n rate) refl refl)
+                  (sub.stands configs log e rout.stands (is_unbound-before configs log n x.router rout early)
+                  (record { rate = rate; is = ap (λ j. act.Register c j rate) (sym at_number); takes = refl; puts = refl; ends = refl })
+                  (ap (λ j. capacity_in (channels configs log j) c) at_number ∙ absent))
+                  (ap (λ (z : Router). z.number) sub.rest) (ap (λ (z : Router). z.peers) sub.rest),
+              tt,
+            ),
+          );
+      linked = subst (LinksStand configs (log ++ e ∷ [])) (sym kept) (links_kept configs log ev l t refl);
+    }
+  where
+    none_in : (o : Option ℕ) → is_some o ≡ false → o ≡ None
+    none_in None h = refl
+    none_in (Some k) h = cc
+
+    counted : (m t c total k : ℕ) → total ≡ t → k ≡ c → nat_lt (m + (t + c)) (2 ^ 64) ≡ true → m + (total + k) < 2 ^ 64
+    counted m t c total k a b h = grind (arith, nat_tests)
+
+    line-kept_all : (log : List Entry) (e : Entry) (q : Queue) → e.takes ≡ [] → e.puts ≡ [] → e.ends ≡ [] → line (log ++ e ∷ []) q ≡ line log q
+    line-kept_all log e q a b c = line-still log e e.reply q (record { reply = refl; takes = a; puts = b; ends = c })
+
+-- ---- start
+
+pub start_performs : (configs : List Config) (log : List Entry) (at seed n : ℕ) (x y : Node) (l links : Links) (r : Row) → NodeStands configs log n x → LinksStand configs log l
+    → Starts (length log) at x y r → links ≡ l → Performs configs log (asked at seed (act.Start n)) n y links r
+unfolding effect row
+start_performs configs log at seed n x y l links r s t d kept =
+    let ev = asked at seed (act.Start n) in
+    let e = effect configs log ev in
+    let chan : ChannelsStand configs log n x.channels = s.each place.channels in
+    let rout : RouterStands configs log n x.router = s.each place.router in
+    let parts : y ≡ record x { router = y.router; dialing = started x.config at x.dialing } = d.0 in
+    let calls = d.1 in
+    let at_number : x.router.number ≡ n = rout.number in
+    let row_is : r ≡ start_row configs log n = calls.row configs log rout.stands ∙ ap (start_row configs log) at_number in
+    let size : x.config.mailbox_size ≡ mailbox_size_at configs n = sym (ap (λ (o : Option Config). elim o [ None ↦ 0 | Some c ↦ c.mailbox_size ]) s.own.config) in
+    let places : x.config.mailbox_size + x.channels.total ≡ router_capacity configs log x.router.number =
+    ap (λ k. k + x.channels.total) size
+    ∙ (ap (λ k. mailbox_size_at configs n + k) chan.total ∙ ap (router_capacity configs log) (sym at_number))
+    in
+    record {
+      row_is = row_is;
+      node =
+          each_part configs log ev n x y (place.router ∷ place.dialer ∷ []) s (subst (λ z. z ≡ with_parts (place.router ∷ place.dialer ∷ []) x z) (sym parts) refl)
+          (λ p out. not_among (place.router ∷ place.dialer ∷ []) p n n out) refl (
+            RouterStands-moved configs log e n x.router y.router rout (hears_aside log e n (act.Start n) refl refl)
+                (subst (λ (z : Row). StandsFor configs (log ++ entry_of ev z ∷ []) y.router) row_is (calls.stands configs log ev rout.stands refl (ap act.Start (sym at_number)) places))
+                (ap (λ (z : Router). z.number) calls.rest) (ap (λ (z : Router). z.peers) calls.rest),
+            (
+              subst (DialerStands configs (log ++ e ∷ []) n) (sym (ap (λ (z : Node). z.dialing) parts)) (dialer_starts configs log e n x.config x.dialing (s.each place.dialer) s.own.config refl (λ k. line-untouched configs log ev (queue.Attempt n k) refl refl refl)),
+              tt,
+            ),
+          );
+      linked = subst (LinksStand configs (log ++ e ∷ [])) (sym kept) (links_kept configs log ev l t refl);
+    }
+
+-- ---- recv
+
+-- the row of a reader is that of its channel
+recv_is : (configs : List Config) (log : List Entry) (n c : ℕ) (ch : Channels) → ChannelsStand configs log n ch → has_reader ch c ≡ true → oldest_read (waiting ch.waiting c) ≡ recv_row configs log c n
+recv_is configs log n c ch s has =
+    ap oldest_read (s.waits c) ∙ sym (ap (λ b. cond b (oldest_read (line log (queue.Channel n c))) (only reply.Gone)) (sym (reader_is configs log n c ch s) ∙ has))
+
+-- the channels, once the first item of one was read
+read_stands : (configs : List Config) (log : List Entry) (e : Entry) (n c : ℕ) (ch : Channels) (xs : List Envelope) → ChannelsStand configs log n ch → waiting ch.waiting c ≡ xs → e.event.act ≡ act.Recv c n
+    → e.takes ≡ (oldest_read xs).takes → e.puts ≡ (oldest_read xs).puts → e.ends ≡ (oldest_read xs).ends → ChannelsStand configs (log ++ e ∷ []) n (taken_on (message_first (slice_get xs 0)) c ch)
+read_stands configs log e n c ch [] s is acts takes puts ends =
+    channels_moved configs log e n ch ch.waiting s (ap (registers_at configs n) acts) (admits_apart configs log e n (act.Recv c n) acts (λ d. refl)) (sends_apart log e n (act.Recv c n) acts (refl, refl)) (closes_apart log e n (act.Recv c n) acts refl)
+    (λ f. s.waits f ∙ sym (line-still log e e.reply (queue.Channel n f) (record { reply = refl; takes = takes; puts = puts; ends = ends })))
+read_stands configs log e n c ch (y ∷ ys) s is acts takes puts ends = read_first configs log e n c ch y ys s is acts y.item refl takes puts ends
+  where
+    still : (configs : List Config) (log : List Entry) (e : Entry) (n c : ℕ) (ch : Channels) → ChannelsStand configs log n ch → e.event.act ≡ act.Recv c n → e.takes ≡ [] → e.puts ≡ [] → e.ends ≡ [] → ChannelsStand configs (log ++ e ∷ []) n ch
+    still configs log e n c ch s acts takes puts ends =
+        channels_moved configs log e n ch ch.waiting s (ap (registers_at configs n) acts) (admits_apart configs log e n (act.Recv c n) acts (λ d. refl)) (sends_apart log e n (act.Recv c n) acts (refl, refl)) (closes_apart log e n (act.Recv c n) acts refl)
+        (λ f. s.waits f ∙ sym (line-still log e e.reply (queue.Channel n f) (record { reply = refl; takes = takes; puts = puts; ends = ends })))
+
+    read_first : (configs : List Config) (log : List Entry) (e : Entry) (n c : ℕ) (ch : Channels) (y : Envelope) (ys : List Envelope) → ChannelsStand configs log n ch → waiting ch.waiting c ≡ y ∷ ys → e.event.act ≡ act.Recv c n
+        → (i : Item) → y.item ≡ i → e.takes ≡ (read_row (name_of y) i).takes → e.puts ≡ (read_row (name_of y) i).puts → e.ends ≡ (read_row (name_of y) i).ends
+        → ChannelsStand configs (log ++ e ∷ []) n (taken_on (cond (is_message i) (Some y) None) c ch)
+    read_first configs log e n c ch y ys s is acts (item.Message bytes copy from) it takes puts ends =
+        channels_moved configs log e n ch (popped_at ch.waiting c) s (ap (registers_at configs n) acts) (admits_apart configs log e n (act.Recv c n) acts (λ d. refl)) (sends_apart log e n (act.Recv c n) acts (refl, refl)) (closes_apart log e n (act.Recv c n) acts refl)
+        (holds_taken (queue.Channel n) (same_channel n) log e c y ys ch.waiting s.waits
+        (record { first = sym (s.waits c) ∙ is; gone = ap (λ t. t ++ flat_map ended_item e.ends) takes ∙ ap (λ d. name_of y ∷ flat_map ended_item d) ends })
+        (λ f. ap (λ p. filter (stands_in (queue.Channel n f)) (placed (length log) 0 p)) puts))
+    read_first configs log e n c ch y ys s is acts _ it takes puts ends = still configs log e n c ch s acts takes puts ends
+
+read_on_performs : (configs : List Config) (log : List Entry) (at seed n c : ℕ) (b : Bool) (x y : Node) (l links : Links) (r : Row) → NodeStands configs log n x → LinksStand configs log l
+    → has_reader x.channels c ≡ b → ReadsOn b c x y r → links ≡ l → Performs configs log (asked at seed (act.Recv c n)) n y links r
+unfolding effect row
+read_on_performs configs log at seed n c false x y l links r s t has d kept =
+    let chan : ChannelsStand configs log n x.channels = s.each place.channels in
+    stays_performs configs log (asked at seed (act.Recv c n)) n x y l links r reply.Gone s t
+    (ap (λ b. cond b (oldest_read (line log (queue.Channel n c))) (only reply.Gone)) (sym (reader_is configs log n c x.channels chan) ∙ has)) refl d.0 d.1 kept
+read_on_performs configs log at seed n c true x y l links r s t has d kept =
+    let ev = asked at seed (act.Recv c n) in
+    let e = effect configs log ev in
+    let chan : ChannelsStand configs log n x.channels = s.each place.channels in
+    let parts : y ≡ record x { channels = read_from c x.channels } = d.1 in
+    let is = recv_is configs log n c x.channels chan has in
+    record {
+      row_is = d.0 ∙ is;
+      node =
+          each_part configs log ev n x y (place.channels ∷ []) s (subst (λ z. z ≡ with_parts (place.channels ∷ []) x z) (sym parts) refl)
+          (λ p out. not_among (place.channels ∷ []) p n n out) refl (
+            subst (ChannelsStand configs (log ++ e ∷ []) n) (sym (ap (λ (z : Node). z.channels) parts))
+                (read_stands configs log e n c x.channels (waiting x.channels.waiting c) chan refl refl (ap (λ (z : Row). z.takes) (sym is)) (ap (λ (z : Row). z.puts) (sym is)) (ap (λ (z : Row). z.ends) (sym is))),
+            tt,
+          );
+      linked = subst (LinksStand configs (log ++ e ∷ [])) (sym kept) (links_kept configs log ev l t refl);
+    }
+
+pub read_performs : (configs : List Config) (log : List Entry) (at seed n c : ℕ) (x y : Node) (l links : Links) (r : Row) → NodeStands configs log n x → LinksStand configs log l
+    → Reads c x y r → links ≡ l → Performs configs log (asked at seed (act.Recv c n)) n y links r
+read_performs configs log at seed n c x y l links r s t d kept = read_on_performs configs log at seed n c (has_reader x.channels c) x y l links r s t refl d kept

@@ -1,0 +1,4 @@
+pub mod Connecting
+pub mod Ending
+pub mod Receiving
+pub mod Steps

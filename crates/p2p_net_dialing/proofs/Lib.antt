@@ -1,0 +1,17 @@
+pub mod Arrivals
+pub mod Attempting
+pub mod Between
+pub mod DialAnswers
+pub mod Dialing
+pub mod DroppedEnds
+pub mod Exchanged
+pub mod Finished
+pub mod HandingOn
+pub mod Handshaking
+pub mod Heard
+pub mod Linked
+pub mod Listened
+pub mod Listening
+pub mod Resolving
+pub mod Shaken
+pub mod Trying

@@ -1,0 +1,4 @@
+pub mod Dialing
+pub mod Finishing
+pub mod Linking
+pub mod Spawning

@@ -1,0 +1,14 @@
+pub mod ActKinds
+pub mod EachPart
+pub mod Faults
+pub mod Frames
+pub mod Keys
+pub mod LinkedNodes
+pub mod Nodes
+pub mod Performing
+pub mod Readying
+pub mod Receivers
+pub mod Routers
+pub mod Starts
+pub mod Touching
+pub mod TrackerAlone

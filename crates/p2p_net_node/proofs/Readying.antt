@@ -1,0 +1,340 @@
+-- An act that may be asked for finds its nodes ready.
+use Rattle.std.proofs.Common.{◌≡◌, ℕ, zero, suc, ◌+◌, ◌*◌, ◌^◌, ◌<◌, ◌≤◌, Bool, true, false, List, [], ◌∷◌, length, refl, ap, sym, subst, ◌∙◌, arith, Option, Some, None}
+use Rattle.std.specs.Prelude.{slice_get, nat_lt, nat_le, not, ◌&&◌, is_some}
+use Rattle.std.proofs.lemmas.Bool.{and_parts, not-true}
+use Rattle.std.proofs.lemmas.Option.{same_Some}
+use Rattle.std.proofs.lemmas.Bool.Decides.{nat_tests}
+use Rattle.p2p_log_rules.proofs.Bools.{and_false, and_true}
+use Rattle.p2p_log.specs.declared.config.Config.{Config}
+use Rattle.p2p_log.specs.declared.entry.Entry.{Entry}
+use Rattle.p2p_log.specs.declared.event.Rate.{Rate}
+use Rattle.p2p_log.specs.declared.asked.Asked.TheVariants as ask
+use Rattle.p2p_log.specs.declared.event.Act.{Act}
+use Rattle.p2p_log.specs.declared.event.Act.TheVariants as act
+use Rattle.p2p_log_rules.specs.Facts.{events_of, has_started, is_up, key_at, registered, capacity_for, capacity_in, sum_capacities}
+use Rattle.p2p_log_rules.specs.Effect.{mailbox_size_at, limit_at}
+use Rattle.p2p_log_rules.specs.Valid.{fits, sizes_fit, gates_fit, is_quota, fits_usize}
+use Rattle.p2p_log_rules.specs.Valid as valid
+use Rattle.p2p_log_rules.specs.Lawful.{IsLawful}
+use Rattle.p2p_log_rules.proofs.Channels.{is_up-asked, channels-asked}
+use Rattle.p2p_log_laws.proofs.Connecting.{connect_is_reserved}
+use Rattle.p2p_log_laws.proofs.HeldPeers.{held_is_others}
+use Rattle.p2p_log_laws.proofs.NodeGrants.{release_is_held}
+use Rattle.p2p_net_tracker.specs.Stands.{ReleasesHeld, ConnectsReserved}
+use Rattle.p2p_net_channels.specs.Channels.{capacity_at}
+use Rattle.p2p_net_channels.specs.Stands.{ChannelsStand}
+use Rattle.p2p_net_links.specs.declared.links.Links.{Links}
+use Rattle.p2p_net_node.specs.Places as place
+use Rattle.p2p_net_tracker.proofs.Begins.{may_take}
+use Rattle.p2p_net_listener.proofs.Changes.{place_held}
+use Rattle.p2p_log_rules.specs.declared.row.Opening.{Opening}
+use Rattle.p2p_net_queues.specs.Tables as table
+use Rattle.p2p_net_links.specs.Stands.{LinksStand}
+use Rattle.p2p_net_node.specs.Places.{asked_node, or_first, node_asked, node_checking, linked_by, nodes_linked, node_of, other_of}
+use Rattle.p2p_net_node.proofs.LinkedNodes.{opening_made}
+use Rattle.p2p_net_node.specs.Ready.{is_started, capacity_by, may_register, names_spawner, checks, asks_set, subscribes, may_ask, may_at, may_act, IsReady, MayPerform, names_dialer, names_listener, is_link, links_attempt}
+use Rattle.p2p_net_node.specs.Meetings.{meeting_of, MeetsThere}
+use Rattle.p2p_net_node.specs.Stands.{RouterStands, OwnStands, NodeStands, WorldStands}
+use Rattle.p2p_net_node.specs.declared.meeting.Ends.{Ends}
+use Rattle.p2p_net_node.specs.declared.meeting.Meeting.{Meeting}
+use Rattle.p2p_net_node.specs.declared.meeting.Meeting.TheVariants as meeting
+use Rattle.p2p_net_node.specs.declared.node.Node.{Node}
+use Rattle.p2p_net_node.proofs.Nodes.{some_at}
+use Rattle.p2p_net_node.proofs.Routers.{is_unbound-before}
+use Rattle.p2p_net_node.proofs.Starts.{fits_there}
+
+-- ---- what the code tests is what the log says
+
+pub started_is : (configs : List Config) (log : List Entry) (n : ℕ) (x : Node) → NodeStands configs log n x → is_started x ≡ is_up log n
+started_is configs log n x s = let rout : RouterStands configs log n x.router = s.each place.router in rout.stands.bound ∙ ap (is_up log) rout.number
+
+-- and what was asked of it
+started_asked : (configs : List Config) (log : List Entry) (n : ℕ) (x : Node) → NodeStands configs log n x → is_started x ≡ has_started (events_of log) n
+started_asked configs log n x s = started_is configs log n x s ∙ is_up-asked log n
+
+size_is : (configs : List Config) (n : ℕ) (x : Node) → OwnStands configs n x → x.config.mailbox_size ≡ mailbox_size_at configs n
+size_is configs n x s = sym (ap (λ (o : Option Config). elim o [ None ↦ 0 | Some c ↦ c.mailbox_size ]) s.config)
+
+pub key_is : (configs : List Config) (n : ℕ) (x : Node) → OwnStands configs n x → x.config.public_key ≡ key_at configs n
+key_is configs n x s = sym (ap (λ (o : Option Config). elim o [ None ↦ record { 0 = 0 } | Some c ↦ c.public_key ]) s.config)
+
+limit_is : (configs : List Config) (n : ℕ) (x : Node) → OwnStands configs n x → x.config.max_message_size ≡ limit_at configs n
+limit_is configs n x s = sym (ap (λ (o : Option Config). elim o [ None ↦ 0 | Some c ↦ c.max_message_size ]) s.config)
+
+capacity_is : (configs : List Config) (n : ℕ) (rate : Rate) (x : Node) → OwnStands configs n x → capacity_by x rate ≡ capacity_for (slice_get configs n) rate
+capacity_is configs n rate x s = ap (λ m. m * rate.burst) s.retained ∙ sym (ap (λ o. capacity_for o rate) s.config)
+
+register_is : (configs : List Config) (log : List Entry) (n c : ℕ) (rate : Rate) (x : Node) → NodeStands configs log n x → may_register x c rate ≡ valid.may_register configs (events_of log) c n rate
+register_is configs log n c rate x s =
+    let chan : ChannelsStand configs log n x.channels = s.each place.channels in
+    let regs = registered configs (events_of log) n in
+    let tests : Bool → Option ℕ → ℕ → ℕ → ℕ → Bool = λ started o k size total.
+    ((not started && not (is_some o)) && is_quota rate) && (fits_usize k && fits_usize (size + (total + k)))
+    in
+    ap (λ b. tests b (capacity_at x.channels c) (capacity_by x rate) x.config.mailbox_size x.channels.total) (started_asked configs log n x s)
+    ∙ (ap (λ o. tests (has_started (events_of log) n) o (capacity_by x rate) x.config.mailbox_size x.channels.total) (chan.capacities c ∙ ap (λ l. capacity_in l c) (channels-asked configs log n))
+    ∙ (ap (λ k. tests (has_started (events_of log) n) (capacity_in regs c) k x.config.mailbox_size x.channels.total) (capacity_is configs n rate x s.own)
+    ∙ (ap (λ k. tests (has_started (events_of log) n) (capacity_in regs c) (capacity_for (slice_get configs n) rate) k x.channels.total) (size_is configs n x s.own)
+    ∙ ap (λ k. tests (has_started (events_of log) n) (capacity_in regs c) (capacity_for (slice_get configs n) rate) (mailbox_size_at configs n) k) (chan.total ∙ ap sum_capacities (channels-asked configs log n)))))
+
+spawned_is : (log : List Entry) (n conn : ℕ) → names_spawner n (slice_get log conn) ≡ valid.names_spawner (events_of log) n conn
+spawned_is [] n conn = refl
+spawned_is (e ∷ es) n zero = refl
+spawned_is (e ∷ es) n (suc i) = spawned_is es n i
+
+-- a question for a peer set names a node
+set_is : (configs : List Config) (log : List Entry) (e : ℕ)
+    → (nat_lt (node_asked (slice_get log e)) (length configs) && asks_set (slice_get log e)) ≡ valid.is_node configs (valid.set_asked_of (slice_get (events_of log) e))
+set_is configs [] e = and_false (nat_lt 0 (length configs))
+set_is configs (d ∷ ds) zero = by d.event.act
+  where
+    by : (a : Act) → (nat_lt (or_first (asked_node a)) (length configs) && is_some (valid.set_asked_by a)) ≡ valid.is_node configs (valid.set_asked_by a)
+    by (act.Ask (ask.PeerSet index) n) = and_true (nat_lt n (length configs))
+    by (act.Ask _ n) = and_false (nat_lt n (length configs))
+    by _ = and_false (nat_lt 0 (length configs))
+set_is configs (d ∷ ds) (suc i) = set_is configs ds i
+
+-- and so does a subscription
+subscription_is : (configs : List Config) (log : List Entry) (e : ℕ)
+    → (nat_lt (node_asked (slice_get log e)) (length configs) && subscribes (slice_get log e)) ≡ valid.is_node configs (valid.subscribed_at (slice_get (events_of log) e))
+subscription_is configs [] e = and_false (nat_lt 0 (length configs))
+subscription_is configs (d ∷ ds) zero = by d.event.act
+  where
+    by : (a : Act) → (nat_lt (or_first (asked_node a)) (length configs) && is_some (valid.subscribed_by a)) ≡ valid.is_node configs (valid.subscribed_by a)
+    by (act.Ask ask.Subscribe n) = and_true (nat_lt n (length configs))
+    by (act.Ask ask.Blocked n) = and_true (nat_lt n (length configs))
+    by (act.Ask _ n) = and_false (nat_lt n (length configs))
+    by _ = and_false (nat_lt 0 (length configs))
+subscription_is configs (d ∷ ds) (suc i) = subscription_is configs ds i
+
+-- a check names a node
+check_is : (configs : List Config) (log : List Entry) (e : ℕ)
+    → (nat_lt (node_checking (slice_get log e)) (length configs) && checks (slice_get log e)) ≡ valid.is_node configs (valid.checked_of (slice_get (events_of log) e))
+check_is configs [] e = and_false (nat_lt 0 (length configs))
+check_is configs (d ∷ ds) zero = by d.event.act
+  where
+    by : (a : Act) → (nat_lt (or_first (valid.checked_by a)) (length configs) && is_some (valid.checked_by a)) ≡ valid.is_node configs (valid.checked_by a)
+    by (act.Check c n to) = and_true (nat_lt n (length configs))
+    by _ = and_false (nat_lt 0 (length configs))
+check_is configs (d ∷ ds) (suc i) = check_is configs ds i
+
+dialed_is : (log : List Entry) (n e : ℕ) → names_dialer n (slice_get log e) ≡ valid.names_dialer (events_of log) n e
+dialed_is [] n e = refl
+dialed_is (d ∷ ds) n zero = refl
+dialed_is (d ∷ ds) n (suc i) = dialed_is ds n i
+
+listened_is : (log : List Entry) (n e : ℕ) → names_listener n (slice_get log e) ≡ valid.names_listener (events_of log) n e
+listened_is [] n e = refl
+listened_is (d ∷ ds) n zero = refl
+listened_is (d ∷ ds) n (suc i) = listened_is ds n i
+
+-- an event that links an attempt of a node to another
+linked_is : (configs : List Config) (log : List Entry) (link : ℕ)
+    → (nat_lt (nodes_linked (slice_get log link)).dials (length configs) && (nat_lt (nodes_linked (slice_get log link)).listens (length configs) && links_attempt (slice_get log link)))
+    ≡ valid.names_link configs (events_of log) link
+linked_is configs [] link = nowhere (nat_lt 0 (length configs))
+  where
+    nowhere : (b : Bool) → (b && (b && false)) ≡ false
+    nowhere true = refl
+    nowhere false = refl
+linked_is configs (d ∷ ds) zero = by d.event.act
+  where
+    nowhere : (b : Bool) → (b && (b && false)) ≡ false
+    nowhere true = refl
+    nowhere false = refl
+
+    by : (a : Act) → (nat_lt (linked_by a).dials (length configs) && (nat_lt (linked_by a).listens (length configs) && is_link a)) ≡ valid.links_nodes configs a
+    by (act.Connect e from n to) = ap (λ b. nat_lt n (length configs) && b) (and_true (nat_lt to (length configs)))
+    by _ = nowhere (nat_lt 0 (length configs))
+linked_is configs (d ∷ ds) (suc i) = linked_is configs ds i
+
+-- by whether the node is there
+there : (b : Bool) (at rest : Bool) → (b ≡ true → at ≡ rest) → (b && (b && at)) ≡ (b && rest)
+there true at rest h = h refl
+there false at rest h = refl
+
+there_plain : (b : Bool) (at : Bool) → (b ≡ true → at ≡ true) → (b && (b && at)) ≡ b
+there_plain true at h = h refl
+there_plain false at h = refl
+
+all_there : (p q at rest : Bool) → (p ≡ true → at ≡ rest) → (p && (q && at)) ≡ (p && (q && rest))
+all_there true q at rest h = ap (λ b. q && b) (h refl)
+all_there false q at rest h = refl
+
+module _ (configs : List Config) (log : List Entry) (nodes : List Node) (links : Links) (s : WorldStands configs log nodes links) where
+  -- what is asked of a node that is there
+  asked_at : (n : ℕ) (f : Node → Bool) (b : Bool) → nat_lt n (length nodes) ≡ true → ((x : Node) → NodeStands configs log n x → f x ≡ b) → elim (slice_get nodes n) [ None ↦ false | Some x ↦ f x ] ≡ b
+  asked_at n f b lt h =
+      let it = some_at nodes n (grind (arith, nat_tests)) in
+      ap (λ (o : Option Node). elim o [ None ↦ false | Some x ↦ f x ]) it.is ∙ h it.x (s.each n it.x it.is)
+
+  at_by : (a : Act) (o : Option Node) → may_at o log a ≡ elim o [ None ↦ false | Some x ↦ may_ask log x a ]
+  at_by a None = refl
+  at_by a (Some x) = refl
+
+  counted : (n : ℕ) → nat_lt n (length nodes) ≡ nat_lt n (length configs)
+  counted n = ap (nat_lt n) s.long
+
+  asks : (a : Act) (b : Bool) → nat_lt (node_of log a) (length nodes) ≡ true → ((x : Node) → NodeStands configs log (node_of log a) x → may_ask log x a ≡ b) → may_at (slice_get nodes (node_of log a)) log a ≡ b
+  asks a b lt h = at_by a (slice_get nodes (node_of log a)) ∙ asked_at (node_of log a) (λ x. may_ask log x a) b lt h
+
+  -- an act of which nothing is asked but its node
+  free : (a : Act) → ((x : Node) → may_ask log x a ≡ true) → nat_lt (node_of log a) (length nodes) && (nat_lt (node_of log a) (length nodes) && may_at (slice_get nodes (node_of log a)) log a) ≡ nat_lt (node_of log a) (length configs)
+  free a h = there_plain (nat_lt (node_of log a) (length nodes)) (may_at (slice_get nodes (node_of log a)) log a) (λ lt. asks a true lt (λ x t. h x)) ∙ counted (node_of log a)
+
+  -- an act that names a step of its node's dialer
+  of_dialer : (n e : ℕ) (a : Act) → ((x : Node) → may_ask log x a ≡ names_dialer n (slice_get log e))
+      → (nat_lt n (length nodes) && (nat_lt n (length nodes) && may_at (slice_get nodes n) log a)) ≡ (nat_lt n (length configs) && valid.names_dialer (events_of log) n e)
+  of_dialer n e a asks_it =
+      there (nat_lt n (length nodes)) (may_at (slice_get nodes n) log a) (valid.names_dialer (events_of log) n e)
+      (λ lt. at_by a (slice_get nodes n) ∙ asked_at n (λ x. may_ask log x a) (valid.names_dialer (events_of log) n e) lt (λ x t. asks_it x ∙ dialed_is log n e))
+      ∙ ap (λ b. b && valid.names_dialer (events_of log) n e) (counted n)
+
+  may_by : (a : Act) → may_act nodes log a ≡ valid.may_act configs (events_of log) a
+  may_by (act.Register c n rate) =
+      there (nat_lt n (length nodes)) (may_at (slice_get nodes n) log (act.Register c n rate)) (valid.may_register configs (events_of log) c n rate)
+      (λ lt. asks (act.Register c n rate) (valid.may_register configs (events_of log) c n rate) lt (λ x t. register_is configs log n c rate x t))
+      ∙ ap (λ b. b && valid.may_register configs (events_of log) c n rate) (counted n)
+  may_by (act.Start n) =
+      there (nat_lt n (length nodes)) (may_at (slice_get nodes n) log (act.Start n)) (not (has_started (events_of log) n))
+      (λ lt. asks (act.Start n) (not (has_started (events_of log) n)) lt (λ x t. ap (λ b. not b) (started_asked configs log n x t)))
+      ∙ ap (λ b. b && not (has_started (events_of log) n)) (counted n)
+  may_by (act.SendChecked bytes check priority) =
+      let n = node_checking (slice_get log check) in
+      there (nat_lt n (length nodes)) (may_at (slice_get nodes n) log (act.SendChecked bytes check priority)) (checks (slice_get log check))
+      (λ lt. asks (act.SendChecked bytes check priority) (checks (slice_get log check)) lt (λ x t. refl))
+      ∙ (ap (λ b. b && checks (slice_get log check)) (counted n) ∙ check_is configs log check)
+  may_by (act.SendStep conn n) =
+      there (nat_lt n (length nodes)) (may_at (slice_get nodes n) log (act.SendStep conn n)) (valid.names_spawner (events_of log) n conn)
+      (λ lt. asks (act.SendStep conn n) (valid.names_spawner (events_of log) n conn) lt (λ x t. spawned_is log n conn))
+      ∙ ap (λ b. b && valid.names_spawner (events_of log) n conn) (counted n)
+  may_by (act.RecvStep conn n) =
+      there (nat_lt n (length nodes)) (may_at (slice_get nodes n) log (act.RecvStep conn n)) (valid.names_spawner (events_of log) n conn)
+      (λ lt. asks (act.RecvStep conn n) (valid.names_spawner (events_of log) n conn) lt (λ x t. spawned_is log n conn))
+      ∙ ap (λ b. b && valid.names_spawner (events_of log) n conn) (counted n)
+  may_by (act.Answer e) =
+      let n = node_asked (slice_get log e) in
+      there (nat_lt n (length nodes)) (may_at (slice_get nodes n) log (act.Answer e)) (asks_set (slice_get log e)) (λ lt. asks (act.Answer e) (asks_set (slice_get log e)) lt (λ x t. refl))
+      ∙ (ap (λ b. b && asks_set (slice_get log e)) (counted n) ∙ set_is configs log e)
+  may_by (act.Next e) =
+      let n = node_asked (slice_get log e) in
+      there (nat_lt n (length nodes)) (may_at (slice_get nodes n) log (act.Next e)) (subscribes (slice_get log e)) (λ lt. asks (act.Next e) (subscribes (slice_get log e)) lt (λ x t. refl))
+      ∙ (ap (λ b. b && subscribes (slice_get log e)) (counted n) ∙ subscription_is configs log e)
+  may_by (act.Handshake e n) =
+      there (nat_lt n (length nodes)) (may_at (slice_get nodes n) log (act.Handshake e n)) (valid.names_listener (events_of log) n e)
+      (λ lt. asks (act.Handshake e n) (valid.names_listener (events_of log) n e) lt (λ x t. listened_is log n e))
+      ∙ ap (λ b. b && valid.names_listener (events_of log) n e) (counted n)
+  may_by (act.Attempt e n) = of_dialer n e (act.Attempt e n) (λ x. refl)
+  may_by (act.Resolve addresses e n) = of_dialer n e (act.Resolve addresses e n) (λ x. refl)
+  may_by (act.Connect e from n to) =
+      all_there (nat_lt n (length nodes)) (nat_lt to (length nodes)) (may_at (slice_get nodes n) log (act.Connect e from n to)) (valid.names_dialer (events_of log) n e)
+      (λ lt. asks (act.Connect e from n to) (valid.names_dialer (events_of log) n e) lt (λ x t. dialed_is log n e))
+      ∙ (ap (λ b. b && (nat_lt to (length nodes) && valid.names_dialer (events_of log) n e)) (counted n)
+      ∙ ap (λ b. nat_lt n (length configs) && (b && valid.names_dialer (events_of log) n e)) (counted to))
+  may_by (act.Refuse e n) = of_dialer n e (act.Refuse e n) (λ x. refl)
+  may_by (act.Finish link ok) =
+      let n = (nodes_linked (slice_get log link)).dials in
+      let to = (nodes_linked (slice_get log link)).listens in
+      all_there (nat_lt n (length nodes)) (nat_lt to (length nodes)) (may_at (slice_get nodes n) log (act.Finish link ok)) (links_attempt (slice_get log link))
+      (λ lt. asks (act.Finish link ok) (links_attempt (slice_get log link)) lt (λ x t. refl))
+      ∙ (ap (λ b. b && (nat_lt to (length nodes) && links_attempt (slice_get log link))) (counted n)
+      ∙ (ap (λ b. nat_lt n (length configs) && (b && links_attempt (slice_get log link))) (counted to) ∙ linked_is configs log link))
+  may_by a = free a (λ x. refl)
+
+pub may_act-nodes : (configs : List Config) (log : List Entry) (nodes : List Node) (links : Links) (a : Act) → WorldStands configs log nodes links → may_act nodes log a ≡ valid.may_act configs (events_of log) a
+may_act-nodes configs log nodes links a s = may_by configs log nodes links s a
+
+-- ---- what a node that may be asked is ready for
+
+-- the sizes of a node of valid configurations
+pub sizes_there : (configs : List Config) (log : List Entry) (nodes : List Node) (links : Links) → WorldStands configs log nodes links → (n : ℕ) (x : Node) → slice_get nodes n ≡ Some x → fits x.config ≡ true
+sizes_there configs log nodes links s n x g = fits_there configs n x.config s.valid (s.each n x g).own.config
+
+pub one_mailbox : (c : Config) → fits c ≡ true → 1 ≤ c.mailbox_size
+one_mailbox c fit =
+    let sizes = and_parts (((nat_lt 0 c.max_peers_per_set && nat_lt 0 c.mailbox_size) && (nat_lt 0 c.tracked_peer_sets && nat_lt 0 c.send_batch_size)) && nat_le c.max_message_size 16777200) (fits_usize (c.max_peers_per_set * c.tracked_peer_sets)) (and_parts (sizes_fit c) (gates_fit c) fit).0 in
+    let four = and_parts ((nat_lt 0 c.max_peers_per_set && nat_lt 0 c.mailbox_size) && (nat_lt 0 c.tracked_peer_sets && nat_lt 0 c.send_batch_size)) (nat_le c.max_message_size 16777200) sizes.0 in
+    let two = and_parts (nat_lt 0 c.max_peers_per_set && nat_lt 0 c.mailbox_size) (nat_lt 0 c.tracked_peer_sets && nat_lt 0 c.send_batch_size) four.0 in
+    let one = (and_parts (nat_lt 0 c.max_peers_per_set) (nat_lt 0 c.mailbox_size) two.0).1 in
+    grind (arith, nat_tests)
+
+quotas : (c : Config) → fits c ≡ true → (is_quota c.allowed_handshake_rate_per_ip ≡ true) × (is_quota c.allowed_handshake_rate_per_subnet ≡ true)
+quotas c fit =
+    let gates = (and_parts (sizes_fit c) (gates_fit c) fit).1 in
+    let both = (and_parts (nat_lt 0 c.max_concurrent_handshakes) (is_quota c.allowed_handshake_rate_per_ip && is_quota c.allowed_handshake_rate_per_subnet) gates).1 in
+    and_parts (is_quota c.allowed_handshake_rate_per_ip) (is_quota c.allowed_handshake_rate_per_subnet) both
+
+short_message : (c : Config) → fits c ≡ true → nat_le c.max_message_size 16777200 ≡ true
+short_message c fit =
+    let sizes = and_parts (((nat_lt 0 c.max_peers_per_set && nat_lt 0 c.mailbox_size) && (nat_lt 0 c.tracked_peer_sets && nat_lt 0 c.send_batch_size)) && nat_le c.max_message_size 16777200) (fits_usize (c.max_peers_per_set * c.tracked_peer_sets)) (and_parts (sizes_fit c) (gates_fit c) fit).0 in
+    (and_parts ((nat_lt 0 c.max_peers_per_set && nat_lt 0 c.mailbox_size) && (nat_lt 0 c.tracked_peer_sets && nat_lt 0 c.send_batch_size)) (nat_le c.max_message_size 16777200) sizes.0).1
+
+fits_below : (m t k : ℕ) → nat_lt (m + (t + k)) (2 ^ 64) ≡ true → t + k < 2 ^ 64
+fits_below m t k h = grind (arith, nat_tests)
+
+short : (k m : ℕ) → nat_le k m ≡ true → nat_le m 16777200 ≡ true → k < 2 ^ 32
+short k m h g = grind (arith, nat_tests)
+
+ready_by : (configs : List Config) (log : List Entry) (n : ℕ) (a : Act) (x : Node) → NodeStands configs log n x → ReleasesHeld configs log n → ConnectsReserved configs log n → fits x.config ≡ true → may_ask log x a ≡ true → IsReady a x
+ready_by configs log n (act.Register c m rate) x s released reserved fit may =
+    let halves = and_parts ((not (is_started x) && not (is_some (capacity_at x.channels c))) && is_quota rate) (fits_usize (capacity_by x rate) && fits_usize (x.config.mailbox_size + (x.channels.total + capacity_by x rate))) may in (
+      fits_below x.config.mailbox_size x.channels.total (capacity_by x rate) (and_parts (fits_usize (capacity_by x rate)) (fits_usize (x.config.mailbox_size + (x.channels.total + capacity_by x rate))) halves.1).1,
+      (and_parts (not (is_started x) && not (is_some (capacity_at x.channels c))) (is_quota rate) halves.0).1,
+    )
+ready_by configs log n (act.Start m) x s released reserved fit may =
+    let chan : ChannelsStand configs log n x.channels = s.each place.channels in
+    let off : is_up log n ≡ false = sym (started_is configs log n x s) ∙ not-true (is_started x) may in (
+      is_unbound-before configs log n x.router (s.each place.router) off,
+      (
+        one_mailbox x.config fit,
+        (subst (λ k. k + x.channels.total < 2 ^ 64) (sym (size_is configs n x s.own)) chan.room, quotas x.config fit),
+      ),
+    )
+ready_by configs log n (act.SendStep conn m) x s released reserved fit may = one_mailbox x.config fit
+ready_by configs log n (act.Tracker m) x s released reserved fit may = λ now. may_take configs log n now x.tracker (s.each place.tracker) released reserved
+ready_by configs log n (act.Handshake e m) x s released reserved fit may = λ there. place_held configs log n e x.listening (s.each place.listener) there
+ready_by configs log n _ x s released reserved fit may = tt
+
+-- in a lawful log a release that the tracker is to take is of a key that is held
+releases_held : (configs : List Config) (log : List Entry) (n : ℕ) → IsLawful configs (events_of log) log → ReleasesHeld configs log n
+releases_held configs log n lawful key x rest first is =
+    let held = release_is_held configs (events_of log) log lawful n key x rest first is in
+    (held, held_is_others configs (events_of log) log lawful n key held)
+
+-- and a connection that the tracker is to hear of is of a key that is reserved
+connects_reserved : (configs : List Config) (log : List Entry) (n : ℕ) → IsLawful configs (events_of log) log → ConnectsReserved configs log n
+connects_reserved configs log n lawful conn key x rest first is = connect_is_reserved configs (events_of log) log lawful n conn key x rest first is
+
+-- the nodes that an act brings together are those that it names
+ends_there : (configs : List Config) (log : List Entry) (nodes : List Node) (l : Links) → LinksStand configs log l → (a : Act) → node_of log a < length nodes → other_of log (node_of log a) a < length nodes
+    → (how : Meeting) → meeting_of a ≡ Some how → MeetsThere how nodes l
+ends_there configs log nodes l t (act.Connect e from m k) first second how is =
+    subst (λ h. MeetsThere h nodes l) (same_Some (meeting.Link e from (record { dials = m; listens = k })) how is) (first, second)
+ends_there configs log nodes l t (act.Finish link ok) first second how is = subst (λ h. MeetsThere h nodes l) (same_Some (meeting.Finish link ok) how is) open_there
+  where
+    open_there : (o : Opening) → table.at l.openings link ≡ Some o → (o.node < length nodes) × (o.to < length nodes)
+    open_there o at =
+        let made = opening_made log link o (sym (t.openings link) ∙ at) in
+        (subst (λ i. i < length nodes) (ap (λ (e : Ends). e.dials) made) first, subst (λ i. i < length nodes) (ap (λ (e : Ends). e.listens) made) second)
+ends_there configs log nodes l t _ first second how is = cc
+
+-- an act that may be asked for finds its nodes there, and ready
+pub may_perform : (configs : List Config) (log : List Entry) (nodes : List Node) (links : Links) (a : Act) → WorldStands configs log nodes links → IsLawful configs (events_of log) log → valid.may_act configs (events_of log) a ≡ true
+    → MayPerform nodes links (node_of log a) a
+may_perform configs log nodes links a s lawful may =
+    let n = node_of log a in
+    let m = other_of log n a in
+    let test : may_act nodes log a ≡ true = may_act-nodes configs log nodes links a s ∙ may in
+    let one = and_parts (nat_lt n (length nodes)) (nat_lt m (length nodes) && may_at (slice_get nodes n) log a) test in
+    let two = and_parts (nat_lt m (length nodes)) (may_at (slice_get nodes n) log a) one.1 in
+    record {
+      first = lower n (length nodes) one.0;
+      ready = λ x there.
+          ready_by configs log n a x (s.each n x there) (releases_held configs log n lawful) (connects_reserved configs log n lawful) (sizes_there configs log nodes links s n x there) (sym (ap (λ o. may_at o log a) there) ∙ two.1);
+      ends = λ how is. ends_there configs log nodes links s.linked a (lower n (length nodes) one.0) (lower m (length nodes) two.0) how is;
+      sizes = λ i x there. one_mailbox x.config (sizes_there configs log nodes links s i x there);
+      numbers = λ i x there. let r : RouterStands configs log i x.router = (s.each i x there).each place.router in r.number;
+    }
+  where
+    lower : (i k : ℕ) → nat_lt i k ≡ true → i < k
+    lower i k h = grind (arith, nat_tests)

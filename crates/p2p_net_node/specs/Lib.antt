@@ -1,0 +1,6 @@
+pub mod Meetings
+pub mod Places
+pub mod Ready
+pub mod Routing
+pub mod Stands
+pub mod Staying
