@@ -1,5 +1,5 @@
 -- What the counts of addresses tell, and the blocks that are taken off them, is what the records tell.
-use Rattle.std.proofs.Common.{◌≡◌, ℕ, ◌+◌, ◌-◌, ◌^◌, ◌<◌, Bool, true, false, cond, not, ◌&&◌, ◌||◌, List, [], ◌∷◌, length, Option, Some, None, refl, sym, ap, ◌∙◌, arith, subst, filter_map}
+use Rattle.std.proofs.Common.{◌≡◌, ℕ, ◌+◌, ◌-◌, Bool, true, false, cond, not, ◌&&◌, ◌||◌, List, [], ◌∷◌, length, Option, Some, None, refl, sym, ap, ◌∙◌, arith, subst, filter_map}
 use Rattle.std.proofs.lemmas.Bool.{lt-ltb, le-ltb, ltb-true, ltb-false}
 use Rattle.std.specs.Prelude.{nat_lt, suc}
 use Rattle.std.specs.Cmp.{IsTotalOrder}
@@ -36,7 +36,6 @@ use Rattle.p2p_tracker_directory.proofs.Counting.{how_many-length, how_many-spli
 use Rattle.p2p_tracker_directory.proofs.Counts.{is_tracked-counts}
 use Rattle.p2p_tracker_directory.proofs.Entries.{among-listed}
 use Rattle.p2p_tracker_directory.proofs.Found.{sorted-filter, is_heard-filter_map}
-use Rattle.p2p_tracker_directory.proofs.Keeping.{how_many-least}
 use Rattle.p2p_tracker_directory.proofs.Steps.{own, peer}
 use Rattle.p2p_tracker_directory.proofs.Written.{lookup_same}
 
@@ -222,10 +221,6 @@ pub from-cond : (ip : IpAddr) (b : Bool) (s : Option IpAddr) → is_from ip (con
 from-cond ip true s = refl
 from-cond ip false s = refl
 
-pub from-free : (ip : IpAddr) (b : Bool) (s : Option IpAddr) → is_from ip (cond b None s) ≡ (not b && is_from ip s)
-from-free ip true s = refl
-from-free ip false s = refl
-
 module _ {X : Type 0} (test : X → Bool) where
   many-passed : (at rest : List X) (x : X) (b : Bool) → at ≡ x ∷ rest → test x ≡ b → how_many test at ≡ how_many test rest + one_if b
   unfolding how_many
@@ -244,19 +239,6 @@ module _ {X : Type 0} (test : X → Bool) where
 
   pub less-passed_over : (at rest : List X) (x : X) (left all : ℕ) → at ≡ x ∷ rest → test x ≡ false → left - how_many test at ≡ all → left - how_many test rest ≡ all
   less-passed_over at rest x left all at_is h e = let none = many-passed at rest x false at_is h in omega (arith, none, e)
-
-  -- one more is counted, or none
-  pub more-passed : (at rest : List X) (x : X) (count all : ℕ) → at ≡ x ∷ rest → test x ≡ true → count + how_many test at ≡ all → (count + 1) + how_many test rest ≡ all
-  more-passed at rest x count all at_is h e = let one = many-passed at rest x true at_is h in omega (arith, one, e)
-
-  pub more-passed_over : (at rest : List X) (x : X) (count all : ℕ) → at ≡ x ∷ rest → test x ≡ false → count + how_many test at ≡ all → count + how_many test rest ≡ all
-  more-passed_over at rest x count all at_is h e = let none = many-passed at rest x false at_is h in omega (arith, none, e)
-
-  pub counted-small : (at rest : List X) (x : X) (count : ℕ) (xs : List X) → at ≡ x ∷ rest → test x ≡ true → count + how_many test at ≡ how_many test xs → length xs < 2 ^ 63 → count + 1 < 2 ^ 64
-  counted-small at rest x count xs at_is h e small =
-      let one = many-passed at rest x true at_is h in
-      let least = how_many-least test xs in
-      omega (arith, one, e, small, least)
 
   pub none-left : (at : List X) (count all : ℕ) → at ≡ [] → count + how_many test at ≡ all → count ≡ all
   unfolding how_many

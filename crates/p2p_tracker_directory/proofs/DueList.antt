@@ -1,16 +1,14 @@
 -- Whom a queue lists for a dial: exactly those of whom the records tell it.
-use Rattle.std.proofs.Common.{◌≡◌, ℕ, ◌<◌, ◌≤◌, Bool, true, false, cond, not, ◌&&◌, ◌||◌, ◌==◌, List, [], ◌∷◌, ◌++◌, Option, Some, None, refl, sym, ap, ◌∙◌, arith, subst, filter_map}
-use Rattle.std.proofs.lemmas.Bool.{false≢true, eqb-true, eq-eqb, lt-ltb, ltb-true}
-use Rattle.std.proofs.lemmas.Cmp.{eq_by_cmp_equiv, ranked}
-use Rattle.std.proofs.lemmas.List.{append_assoc}
+use Rattle.std.proofs.Common.{◌≡◌, ℕ, ◌<◌, ◌≤◌, Bool, true, false, cond, not, ◌&&◌, ◌||◌, ◌==◌, List, [], ◌∷◌, Option, Some, None, refl, sym, ap, ◌∙◌, arith, filter_map}
+use Rattle.std.proofs.lemmas.Bool.{false≢true, eqb-true, eq-eqb}
+use Rattle.std.proofs.lemmas.Cmp.{eq_by_cmp_equiv}
 use Rattle.std.specs.Prelude.{is_some, nat_lt}
 use Rattle.std.specs.Cmp.{IsTotalOrder}
-use Rattle.std.specs.List.{AllByRecursion, find, filter, list_any, cons_option}
+use Rattle.std.specs.List.{find, filter, list_any, cons_option}
 use Rattle.std.specs.List.Sorted.{IsStrictlySortedBy}
 use Rattle.std.specs.Map.{keys_of, lookup, lookup_key}
-use Rattle.std.specs.Ordering.{is_gt, nat_cmp, ordering_then, MatchOrdering}
+use Rattle.std.specs.Ordering.{is_gt, ordering_then, MatchOrdering}
 use Rattle.std.specs.BTreeMap.{is_at}
-use Rattle.std.specs.BTreeSet.{BTreeSet}
 use Rattle.std.specs.declared.cmp.Ordering.{Ordering}
 use Rattle.std.specs.declared.cmp.Ordering.TheVariants.{Less, Equal, Greater}
 use Rattle.p2p_base.specs.Moments.{by_moment, is_moment}
@@ -21,7 +19,7 @@ use Rattle.p2p_tracker_calls.specs.Blocks.{lasts_at}
 use Rattle.p2p_tracker_directory.specs.Recorded.{Recorded, is_myself, is_inert, has_valid_ingress}
 use Rattle.p2p_tracker_directory.specs.Tracked.{passes}
 use Rattle.p2p_tracker_directory.specs.Listed.{after_block, outlook, outlook_in, is_now}
-use Rattle.p2p_tracker_directory.specs.Indexed.{due_in, due_key, Queues}
+use Rattle.p2p_tracker_directory.specs.Indexed.{due_in, due_key}
 use Rattle.p2p_tracker_directory.specs.declared.record.Address.{Address}
 use Rattle.p2p_tracker_directory.specs.declared.record.Address.TheVariants as address
 use Rattle.p2p_tracker_directory.specs.declared.record.DialStatus.TheVariants as dial
@@ -31,6 +29,7 @@ use Rattle.p2p_tracker_directory.proofs.Found.{sorted-filter}
 use Rattle.p2p_tracker_directory.proofs.Indexing.{tie_same}
 use Rattle.p2p_tracker_directory.proofs.Killing.{lookup-flip, same_test}
 use Rattle.p2p_tracker_directory.proofs.Tallying.{same_moment}
+use Rattle.p2p_tracker_directory.proofs.Timed.{Queues}
 use Rattle.p2p_tracker_directory.proofs.Walks.{apart, equal_by}
 use Rattle.p2p_tracker_directory.proofs.Written.{lookup_same}
 
@@ -141,15 +140,15 @@ module _ {P : Type 0} {cmp : P → P → Ordering} (o : IsTotalOrder cmp) (t : �
           (ap (λ n. not (nat_lt t n) && is_at (cmp q) e.1) (sym (eqb-true m e.0 both.0)) ∙ (ap (λ b. b && is_at (cmp q) e.1) h ∙ both.1))
       at false k i rest = any_rest (not (nat_lt t e.0) && is_at (cmp q) e.1) (list_any (λ x. not (nat_lt t x.0) && is_at (cmp q) x.1) es) (rest i)
 
-  module _ (queue : BTreeSet (ℕ × P)) (due : P → Option ℕ) (queued : Queues cmp queue due) where
-    listed-due : list_any (λ e. not (nat_lt t e.0) && is_at (cmp q) e.1) queue.keys ≡ passes (λ m. not (nat_lt t m)) (due q)
-    listed-due = both-ways (list_any (λ e. not (nat_lt t e.0) && is_at (cmp q) e.1) queue.keys) (passes (λ m. not (nat_lt t m)) (due q))
-        (λ h. let found = come_up queue.keys h in ap (passes (λ m. not (nat_lt t m))) (has_moment (due q) found.0 (sym found.2 ∙ queued.each q found.0)) ∙ found.1)
+  module _ (queue : List (ℕ × P)) (due : P → Option ℕ) (queued : Queues cmp queue due) where
+    listed-due : list_any (λ e. not (nat_lt t e.0) && is_at (cmp q) e.1) queue ≡ passes (λ m. not (nat_lt t m)) (due q)
+    listed-due = both-ways (list_any (λ e. not (nat_lt t e.0) && is_at (cmp q) e.1) queue) (passes (λ m. not (nat_lt t m)) (due q))
+        (λ h. let found = come_up queue h in ap (passes (λ m. not (nat_lt t m))) (has_moment (due q) found.0 (sym found.2 ∙ queued.each q found.0)) ∙ found.1)
         (λ h. at (due q) refl h)
       where
-        at : (r : Option ℕ) → due q ≡ r → passes (λ m. not (nat_lt t m)) r ≡ true → list_any (λ e. not (nat_lt t e.0) && is_at (cmp q) e.1) queue.keys ≡ true
+        at : (r : Option ℕ) → due q ≡ r → passes (λ m. not (nat_lt t m)) r ≡ true → list_any (λ e. not (nat_lt t e.0) && is_at (cmp q) e.1) queue ≡ true
         at None e h = absurd (false≢true h)
-        at (Some m) e h = is_listed m h queue.keys (queued.each q m ∙ (ap (λ r. is_moment r m) e ∙ eq-eqb m m refl))
+        at (Some m) e h = is_listed m h queue (queued.each q m ∙ (ap (λ r. is_moment r m) e ∙ eq-eqb m m refl))
 
 -- who is to be dialed now has come up for it
 now_due : (l p i w : Bool) (a : Address) (block : Option ℕ) (next : ℕ) (private dns : Bool)
@@ -207,60 +206,20 @@ passes-outlook (Some x) block t private dns = refl
 
 module _ {P : Type 0} {cmp : P → P → Ordering} (o : IsTotalOrder cmp) (es : List (P × Recorded)) (blocks : List (P × ℕ)) (t : ℕ) (private dns : Bool) where
   -- those that the queue lists, in the order of their keys
-  pub due-peers : (queue : BTreeSet (ℕ × P)) → Queues cmp queue (λ q. due_in (lookup (is_at (cmp q)) es) private dns) → IsStrictlySortedBy cmp (keys_of es)
-      → sorted_once cmp (filter_map (λ e. cond (nat_lt t e.0) None (due_key (is_at (cmp e.1)) es blocks t private dns)) queue.keys)
+  pub due-peers : (queue : List (ℕ × P)) → Queues cmp queue (λ q. due_in (lookup (is_at (cmp q)) es) private dns) → IsStrictlySortedBy cmp (keys_of es)
+      → sorted_once cmp (filter_map (λ e. cond (nat_lt t e.0) None (due_key (is_at (cmp e.1)) es blocks t private dns)) queue)
       ≡ keys_of (filter (λ e. is_now (outlook e.1 (lookup (is_at (cmp e.0)) blocks) t private dns)) es)
   due-peers queue queued s =
       let f : P → Option P = λ k. due_key (is_at (cmp k)) es blocks t private dns in
-      let found = filter_map (λ e. cond (nat_lt t e.0) None (f e.1)) queue.keys in
+      let found = filter_map (λ e. cond (nat_lt t e.0) None (f e.1)) queue in
       sorted_unique o (sorted_once cmp found) (keys_of (filter (λ e. is_now (outlook e.1 (lookup (is_at (cmp e.0)) blocks) t private dns)) es))
       (sorted-sorted_once o found) (sorted-filter cmp (λ e. is_now (outlook e.1 (lookup (is_at (cmp e.0)) blocks) t private dns)) es s)
       (λ q. find-sorted_once o q found
       ∙ (find-mapped o t q f (λ k h. ap (λ test. due_key test es blocks t private dns) (sym (same_test o q k h)))
-      (λ k x h. key_passes (is_at (cmp k)) es x (only_key (is_now (outlook_in (lookup (is_at (cmp k)) es) (lookup (is_at (cmp k)) blocks) t private dns)) (lookup_key (is_at (cmp k)) es) x h)) queue.keys
+      (λ k x h. key_passes (is_at (cmp k)) es x (only_key (is_now (outlook_in (lookup (is_at (cmp k)) es) (lookup (is_at (cmp k)) blocks) t private dns)) (lookup_key (is_at (cmp k)) es) x h)) queue
       ∙ (ap (λ b. cond b (f q) None) (listed-due o t q queue (λ k. due_in (lookup (is_at (cmp k)) es) private dns) queued)
       ∙ (implied (passes (λ m. not (nat_lt t m)) (due_in (lookup (is_at (cmp q)) es) private dns)) (is_now (outlook_in (lookup (is_at (cmp q)) es) (lookup (is_at (cmp q)) blocks) t private dns))
       (lookup_key (is_at (cmp q)) es) (now-due (lookup (is_at (cmp q)) es) (lookup (is_at (cmp q)) blocks) t private dns)
       ∙ (ap (λ b. cond b (lookup_key (is_at (cmp q)) es) None) (sym (passes-outlook (lookup (is_at (cmp q)) es) (lookup (is_at (cmp q)) blocks) t private dns))
       ∙ sym (find-filtered o (λ k x. is_now (outlook x (lookup (is_at (cmp k)) blocks) t private dns))
       (λ k l x h. ap (λ b. is_now (outlook x b t private dns)) (lookup_same o k l blocks h)) q es s))))))
-
-module _ {P : Type 0} (cmp : P → P → Ordering) (t : ℕ) (f : ℕ × P → Option P) where
-  late_behind : (e : ℕ × P) (es : List (ℕ × P)) → AllByRecursion (λ y. by_moment cmp e y ≡ Less) es → nat_lt t e.0 ≡ true → filter_map (λ x. cond (nat_lt t x.0) None (f x)) es ≡ []
-  late_behind e [] a h = refl
-  late_behind e (y ∷ es) a h =
-      let least = below_from e.0 y.0 (nat_cmp e.0 y.0) (cmp e.1 y.1) (ranked e.0 y.0 (nat_cmp e.0 y.0) refl) (ap is_gt a.0) in
-      let later = ltb-true t e.0 h in
-      ap (λ b. cons_option (cond b None (f y)) (filter_map (λ x. cond (nat_lt t x.0) None (f x)) es)) (lt-ltb t y.0 (omega (arith, least, later)))
-      ∙ late_behind e es a.1 h
-
-  -- behind one that has yet to come up nobody is listed
-  pub late-rest : (at : List (ℕ × P)) (e : ℕ × P) (rest : List (ℕ × P)) → at ≡ e ∷ rest → IsStrictlySortedBy (by_moment cmp) at → nat_lt t e.0 ≡ true
-      → (ks all : List P) → ks ++ filter_map (λ x. cond (nat_lt t x.0) None (f x)) at ≡ all → ks ≡ all
-  unfolding IsStrictlySortedBy
-  late-rest at e rest at_is s h ks all so_far =
-      let s2 = subst (IsStrictlySortedBy (by_moment cmp)) at_is s in
-      sym (append_nil ks)
-      ∙ (ap (λ xs. ks ++ xs) (sym (ap (λ b. cons_option (cond b None (f e)) (filter_map (λ x. cond (nat_lt t x.0) None (f x)) rest)) h ∙ late_behind e rest s2.0 h))
-      ∙ (ap (λ xs. ks ++ filter_map (λ x. cond (nat_lt t x.0) None (f x)) xs) (sym at_is) ∙ so_far))
-    where
-      append_nil : (xs : List P) → xs ++ [] ≡ xs
-      append_nil [] = refl
-      append_nil (x ∷ xs) = ap (λ ys. x ∷ ys) (append_nil xs)
-
--- an element is listed, or passed over
-module _ {X Y : Type 0} (f : X → Option Y) (all : List Y) where
-  pub mapped : (at rest : List X) (x : X) (y : Y) (ys more : List Y) → at ≡ x ∷ rest → f x ≡ Some y → more ≡ ys ++ y ∷ [] → ys ++ filter_map f at ≡ all → more ++ filter_map f rest ≡ all
-  mapped at rest x y ys more at_is given more_is so_far =
-      ap (λ zs. zs ++ filter_map f rest) more_is
-      ∙ (append_assoc ys (y ∷ []) (filter_map f rest)
-      ∙ (ap (λ r. ys ++ cons_option r (filter_map f rest)) (sym given) ∙ (ap (λ xs. ys ++ filter_map f xs) (sym at_is) ∙ so_far)))
-
-  pub unmapped : (at rest : List X) (x : X) (ys : List Y) → at ≡ x ∷ rest → f x ≡ None → ys ++ filter_map f at ≡ all → ys ++ filter_map f rest ≡ all
-  unmapped at rest x ys at_is none so_far =
-      ap (λ r. ys ++ cons_option r (filter_map f rest)) (sym none) ∙ (ap (λ xs. ys ++ filter_map f xs) (sym at_is) ∙ so_far)
-
-module _ {X : Type 0} (cmp : X → X → Ordering) where
-  pub sorted-tail : (at rest : List X) (x : X) → at ≡ x ∷ rest → IsStrictlySortedBy cmp at → IsStrictlySortedBy cmp rest
-  unfolding IsStrictlySortedBy
-  sorted-tail at rest x at_is s = (subst (IsStrictlySortedBy cmp) at_is s).1

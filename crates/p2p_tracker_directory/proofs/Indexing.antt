@@ -1,46 +1,44 @@
 -- What a change to one record keeps of an index.
-use Rattle.std.proofs.Common.{◌≡◌, ℕ, ◌+◌, Bool, true, false, cond, not, ◌&&◌, ◌||◌, List, [], ◌∷◌, Option, Some, None, refl, sym, ap, ◌∙◌, arith, subst}
+use Rattle.std.proofs.Common.{◌≡◌, ℕ, Bool, true, false, cond, List, [], ◌∷◌, Option, Some, None, refl, sym, ap, ◌∙◌, subst}
 use Rattle.std.proofs.lemmas.Bool.{false≢true}
-use Rattle.std.proofs.lemmas.Cmp.{eq_by_cmp_equiv}
-use Rattle.std.specs.Prelude.{nat_lt}
+use Rattle.std.proofs.lemmas.Cmp.{eq_by_cmp_equiv, nat_cmp_total}
+use Rattle.std.specs.Prelude.{is_some}
 use Rattle.std.specs.Cmp.{IsTotalOrder}
-use Rattle.std.specs.List.{list_any}
-use Rattle.std.specs.List.Sorted.{IsStrictlySortedBy}
 use Rattle.std.specs.Option.{option_map}
-use Rattle.std.specs.Map.{keys_of, lookup}
+use Rattle.std.specs.Ordering.{nat_cmp}
+use Rattle.std.specs.List.Sorted.{IsStrictlySortedBy}
+use Rattle.std.specs.Map.{lookup}
 use Rattle.std.specs.BTreeMap.{is_at}
+use Rattle.std.specs.BTreeSet.{insert_key}
 use Rattle.std.specs.declared.cmp.Ordering.{Ordering}
+use Rattle.p2p_address.specs.contracts.ip.IpAddrOrd.TheImpl.{ghosts}
 use Rattle.p2p_address.specs.declared.ip.IpAddr.{IpAddr}
-use Rattle.p2p_base.specs.Moments.{by_moment, is_moment}
-use Rattle.p2p_tracker_calls.specs.Heard.{ip_cmp}
-use Rattle.p2p_tracker_calls.specs.Sets.{how_many}
-use Rattle.p2p_tracker_directory.specs.Recorded.{Recorded, fresh, is_myself, is_inert, is_in_sets, is_deletable, egress_in, has_valid_ingress, connected, released, without_need, written}
-use Rattle.p2p_tracker_directory.specs.Tracked.{one_if, passes, nowhere, blanked, needed, leaves}
-use Rattle.p2p_tracker_directory.specs.Indexed.{source_of, source_in, due_of, due_in, is_from, Tallies, Queues, count_where, IndexesWhere, Indexes, IndexesBut}
+use Rattle.p2p_tracker_directory.specs.Placed.{by_place, without, moved}
+use Rattle.p2p_tracker_directory.specs.Recorded.{Recorded, fresh, connected, written}
+use Rattle.p2p_tracker_directory.specs.Tracked.{nowhere, blanked}
+use Rattle.p2p_tracker_directory.specs.Indexed.{source_of, source_in, due_of, due_in, Placed, Indexes, Enters, Stays, Follows}
 use Rattle.p2p_tracker_directory.specs.declared.directory.index.Index.{Index}
-use Rattle.p2p_tracker_directory.specs.declared.record.Address.{Address}
 use Rattle.p2p_tracker_directory.specs.declared.record.Address.TheVariants as address
-use Rattle.p2p_tracker_directory.proofs.Counting.{how_many-same, how_many-split, counts-alike, count-at}
+use Rattle.p2p_tracker_directory.proofs.Addresses.{ip_total}
+use Rattle.p2p_tracker_directory.proofs.AddressCounts.{derived}
+use Rattle.p2p_tracker_directory.proofs.Placing.{placed-moved, placed-left, placed-entered, placed-same}
 use Rattle.p2p_tracker_directory.proofs.Written.{lookup_same, lookup-written}
 
-and_false : (b : Bool) → (b && false) ≡ false
-and_false true = refl
-and_false false = refl
+pub derived_total : IsTotalOrder ghosts.cmp
+derived_total = subst IsTotalOrder (sym derived) ip_total
 
-and_true : (b : Bool) → (b && true) ≡ b
-and_true true = refl
-and_true false = refl
+-- a key's place is told by whether it has a record, and by what is found
+source-place : (r : Option Recorded) → option_map source_of r ≡ cond (is_some r) (Some (source_in r)) None
+source-place None = refl
+source-place (Some r) = refl
 
-pub passes-from : (ip : IpAddr) (r : Option Recorded) → passes (λ x. is_from ip (source_of x)) r ≡ is_from ip (source_in r)
-passes-from ip None = refl
-passes-from ip (Some x) = refl
+due-place : (r : Option Recorded) (private dns : Bool) → option_map (λ x. due_of x private dns) r ≡ cond (is_some r) (Some (due_in r private dns)) None
+due-place None private dns = refl
+due-place (Some r) private dns = refl
 
-passes_none : {X : Type 0} (r : Option X) → passes (λ x. false) r ≡ false
-passes_none None = refl
-passes_none (Some x) = refl
-
-tallies_same : {K : Type 0} (cmp : K → K → Ordering) (counts : List (K × ℕ)) (n m : K → ℕ) → ((k : K) → n k ≡ m k) → Tallies cmp counts n → Tallies cmp counts m
-tallies_same cmp counts n m h t = record { each = λ k. t.each k ∙ ap (λ x. cond (nat_lt 0 x) (Some x) None) (h k) }
+pub no_record : {X : Type 0} (r : Option X) → is_some r ≡ false → r ≡ None
+no_record None h = refl
+no_record (Some x) h = absurd (false≢true (sym h))
 
 module _ {P : Type 0} {cmp : P → P → Ordering} (o : IsTotalOrder cmp) where
   -- a key's tie with another is that of an equal key
@@ -48,235 +46,206 @@ module _ {P : Type 0} {cmp : P → P → Ordering} (o : IsTotalOrder cmp) where
   tie_same p k q e =
       (eq_by_cmp_equiv o).symm p k ∙ ((eq_by_cmp_equiv o).congr k q p e ∙ (eq_by_cmp_equiv o).symm q p)
 
-  module _ (p : P) (t : P → Bool) (t_is : t p ≡ true) (same : (k q : P) → is_at (cmp k) q ≡ true → t k ≡ t q) (es : List (P × Recorded)) (s : IsStrictlySortedBy cmp (keys_of es)) where
-    -- the peer adds what it counts itself
-    count-placed : (ip : IpAddr) → count_where t ip es ≡ count_where (λ q. t q && not (is_at (cmp p) q)) ip es + one_if (is_from ip (source_in (lookup (is_at (cmp p)) es)))
-    count-placed ip =
-        let split = how_many-split (λ e. is_at (cmp p) e.0) (λ e. t e.0 && is_from ip (source_of e.1)) es in
-        let first =
-        how_many-same (λ e. is_at (cmp p) e.0 && (t e.0 && is_from ip (source_of e.1))) (λ e. is_at (cmp p) e.0 && is_from ip (source_of e.1))
-        (λ e. own (is_at (cmp p) e.0) (t e.0) (is_from ip (source_of e.1)) (λ h. sym (same p e.0 h) ∙ t_is)) es
-        ∙ (count-at o (λ r. is_from ip (source_of r)) p es s ∙ ap one_if (passes-from ip (lookup (is_at (cmp p)) es))) in
-        let second =
-        how_many-same (λ e. not (is_at (cmp p) e.0) && (t e.0 && is_from ip (source_of e.1))) (λ e. (t e.0 && not (is_at (cmp p) e.0)) && is_from ip (source_of e.1))
-        (λ e. other (is_at (cmp p) e.0) (t e.0) (is_from ip (source_of e.1))) es in
-        split ∙ (ap (λ n. n + how_many (λ e. not (is_at (cmp p) e.0) && (t e.0 && is_from ip (source_of e.1))) es) first
-        ∙ (ap (λ n. one_if (is_from ip (source_in (lookup (is_at (cmp p)) es))) + n) second
-        ∙ turned (one_if (is_from ip (source_in (lookup (is_at (cmp p)) es)))) (count_where (λ q. t q && not (is_at (cmp p) q)) ip es)))
-      where
-        turned : (a b : ℕ) → a + b ≡ b + a
-        turned a b = omega arith
+  module _ (p : P) (es : List (P × Recorded)) where
+    source-at : (source : Option IpAddr) → source ≡ source_in (lookup (is_at (cmp p)) es) → (there : Bool) → is_some (lookup (is_at (cmp p)) es) ≡ there
+        → (k : P) → is_at (cmp p) k ≡ true → option_map source_of (lookup (is_at (cmp k)) es) ≡ cond there (Some source) None
+    source-at source s there t k h =
+        ap (option_map source_of) (sym (lookup_same o p k es h))
+        ∙ (source-place (lookup (is_at (cmp p)) es) ∙ (ap (λ b. cond b (Some (source_in (lookup (is_at (cmp p)) es))) None) t ∙ ap (λ x. cond there (Some x) None) (sym s)))
 
-        own : (b c d : Bool) → (b ≡ true → c ≡ true) → (b && (c && d)) ≡ (b && d)
-        own true c d h = ap (λ x. x && d) (h refl)
-        own false c d h = refl
+    due-at : (private dns : Bool) (due : Option ℕ) → due ≡ due_in (lookup (is_at (cmp p)) es) private dns → (there : Bool) → is_some (lookup (is_at (cmp p)) es) ≡ there
+        → (k : P) → is_at (cmp p) k ≡ true → option_map (λ x. due_of x private dns) (lookup (is_at (cmp k)) es) ≡ cond there (Some due) None
+    due-at private dns due s there t k h =
+        ap (option_map (λ x. due_of x private dns)) (sym (lookup_same o p k es h))
+        ∙ (due-place (lookup (is_at (cmp p)) es) private dns
+        ∙ (ap (λ b. cond b (Some (due_in (lookup (is_at (cmp p)) es) private dns)) None) t ∙ ap (λ x. cond there (Some x) None) (sym s)))
 
-        other : (b c d : Bool) → (not b && (c && d)) ≡ ((c && not b) && d)
-        other true true d = refl
-        other true false d = refl
-        other false true d = refl
-        other false false d = refl
+  module _ (p : P) (old new : Index P) (private_is : new.private ≡ old.private) (dns_is : new.dns ≡ old.dns) where
+    by_rules : (rows : List (Option ℕ × P)) (es : List (P × Recorded)) → Placed nat_cmp cmp rows (λ q. option_map (λ r. due_of r old.private old.dns) (lookup (is_at (cmp q)) es))
+        → Placed nat_cmp cmp rows (λ q. option_map (λ r. due_of r new.private new.dns) (lookup (is_at (cmp q)) es))
+    by_rules rows es placed =
+        subst (λ a. Placed nat_cmp cmp rows (λ q. option_map (λ r. due_of r a new.dns) (lookup (is_at (cmp q)) es))) (sym private_is)
+        (subst (λ b. Placed nat_cmp cmp rows (λ q. option_map (λ r. due_of r old.private b) (lookup (is_at (cmp q)) es))) (sym dns_is) placed)
 
-    module _ (private dns : Bool) where
-      due : P → Option ℕ
-      due q = cond (t q) (due_in (lookup (is_at (cmp q)) es) private dns) None
-
-      due_but : P → Option ℕ
-      due_but q = cond (t q && not (is_at (cmp p) q)) (due_in (lookup (is_at (cmp q)) es) private dns) None
-
-      own_due : (q : P) → is_at (cmp p) q ≡ true → due q ≡ due_in (lookup (is_at (cmp p)) es) private dns
-      unfolding due
-      own_due q h =
-          ap (λ b. cond b (due_in (lookup (is_at (cmp q)) es) private dns) None) (sym (same p q h) ∙ t_is)
-          ∙ ap (λ r. due_in r private dns) (sym (lookup_same o p q es h))
-
-      not_due : (q : P) → is_at (cmp p) q ≡ true → due_but q ≡ None
-      unfolding due_but
-      not_due q h = ap (λ b. cond (t q && not b) (due_in (lookup (is_at (cmp q)) es) private dns) None) h ∙ ap (λ b. cond b (due_in (lookup (is_at (cmp q)) es) private dns) None) (and_false (t q))
-
-      others_due : (q : P) (b : Bool) → is_at (cmp p) q ≡ b → b ≡ false → due_but q ≡ due q
-      unfolding due due_but
-      others_due q b h e = ap (λ c. cond (t q && not c) (due_in (lookup (is_at (cmp q)) es) private dns) None) (h ∙ e) ∙ ap (λ c. cond c (due_in (lookup (is_at (cmp q)) es) private dns) None) (and_true (t q))
-
-      due-placed : (q : P) → due q ≡ cond (is_at (cmp p) q) (due_in (lookup (is_at (cmp p)) es) private dns) (due_but q)
-      due-placed q = at (is_at (cmp p) q) refl
-        where
-          at : (b : Bool) → is_at (cmp p) q ≡ b → due q ≡ cond b (due_in (lookup (is_at (cmp p)) es) private dns) (due_but q)
-          at true h = own_due q h
-          at false h = sym (others_due q false h refl)
-
-      due-unplaced : (q : P) → due_but q ≡ cond (is_at (cmp p) q) None (due q)
-      due-unplaced q = at (is_at (cmp p) q) refl
-        where
-          at : (b : Bool) → is_at (cmp p) q ≡ b → due_but q ≡ cond b None (due q)
-          at true h = not_due q h
-          at false h = others_due q false h refl
-
-    module _ (old new : Index P) (is_kept : new.is_kept ≡ true → old.is_kept ≡ true) (private_is : new.private ≡ old.private) (dns_is : new.dns ≡ old.dns)
-        (source : Option IpAddr) (source_is : source ≡ source_in (lookup (is_at (cmp p)) es))
-        (moment : Option ℕ) (moment_is : moment ≡ due_in (lookup (is_at (cmp p)) es) old.private old.dns) where
-      -- the peer is left out
-      pub unplaced : ((n m : IpAddr → ℕ) → Tallies ip_cmp old.counts.entries n → ((ip : IpAddr) → n ip ≡ m ip + one_if (is_from ip source)) → Tallies ip_cmp new.counts.entries m)
-          → ((d e : P → Option ℕ) → Queues cmp old.queue d → ((k : P) → is_at (cmp p) k ≡ true → d k ≡ moment) → ((k : P) → e k ≡ cond (is_at (cmp p) k) None (d k)) → Queues cmp new.queue e)
-          → IndexesWhere cmp t old es → IndexesWhere cmp (λ q. t q && not (is_at (cmp p) q)) new es
-      unfolding due due_but
-      unplaced counted queued i = record {
-        counts = λ k. counted (λ ip. count_where t ip es) (λ ip. count_where (λ q. t q && not (is_at (cmp p) q)) ip es) (i.counts (is_kept k))
-            (λ ip. count-placed ip ∙ ap (λ r. count_where (λ q. t q && not (is_at (cmp p) q)) ip es + one_if (is_from ip r)) (sym source_is));
-        queue = λ k. rules (λ a b. Queues cmp new.queue (due_but a b)) (queued (due old.private old.dns) (due_but old.private old.dns) (i.queue (is_kept k))
-            (λ q h. own_due old.private old.dns q h ∙ sym moment_is) (due-unplaced old.private old.dns));
+    module _ (es : List (P × Recorded)) (source : Option IpAddr) (due : Option ℕ) where
+      -- a key that has a record yet is moved to where that is now
+      pub followed : is_some (lookup (is_at (cmp p)) es) ≡ true → (to : Option IpAddr) → to ≡ source_in (lookup (is_at (cmp p)) es)
+          → (at : Option ℕ) → at ≡ due_in (lookup (is_at (cmp p)) es) old.private old.dns
+          → new.sources ≡ moved ghosts.cmp cmp (source, p) (to, p) old.sources → new.queue ≡ moved nat_cmp cmp (due, p) (at, p) old.queue
+          → Follows cmp old new es p source due
+      followed there to to_is at at_is s q = λ before source_is due_is others was i. record {
+        sources = subst (λ rows. Placed ghosts.cmp cmp rows (λ k. option_map source_of (lookup (is_at (cmp k)) es))) (sym s)
+            (placed-moved derived_total o p old.sources (λ k. option_map source_of (lookup (is_at (cmp k)) before)) (λ k. option_map source_of (lookup (is_at (cmp k)) es)) i.sources source to true
+            (source-at p before source source_is true (was there)) (source-at p es to to_is true there) (λ k h. ap (option_map source_of) (others k h)));
+        queue = by_rules new.queue es
+            (subst (λ rows. Placed nat_cmp cmp rows (λ k. option_map (λ r. due_of r old.private old.dns) (lookup (is_at (cmp k)) es))) (sym q)
+            (placed-moved nat_cmp_total o p old.queue (λ k. option_map (λ r. due_of r old.private old.dns) (lookup (is_at (cmp k)) before))
+            (λ k. option_map (λ r. due_of r old.private old.dns) (lookup (is_at (cmp k)) es)) i.queue due at true
+            (due-at p before old.private old.dns due due_is true (was there)) (due-at p es old.private old.dns at at_is true there)
+            (λ k h. ap (option_map (λ r. due_of r old.private old.dns)) (others k h))));
       }
-        where
-          rules : (Q : Bool → Bool → Type 0) → Q old.private old.dns → Q new.private new.dns
-          rules Q h = subst (λ a. Q a new.dns) (sym private_is) (subst (λ b. Q old.private b) (sym dns_is) h)
 
-      -- the peer is taken in
-      pub placed : ((n m : IpAddr → ℕ) → Tallies ip_cmp old.counts.entries n → ((ip : IpAddr) → m ip ≡ n ip + one_if (is_from ip source)) → Tallies ip_cmp new.counts.entries m)
-          → ((d e : P → Option ℕ) → Queues cmp old.queue d → ((k : P) → is_at (cmp p) k ≡ true → d k ≡ None) → ((k : P) → e k ≡ cond (is_at (cmp p) k) moment (d k)) → Queues cmp new.queue e)
-          → IndexesWhere cmp (λ q. t q && not (is_at (cmp p) q)) old es → IndexesWhere cmp t new es
-      unfolding due due_but
-      placed counted queued i = record {
-        counts = λ k. counted (λ ip. count_where (λ q. t q && not (is_at (cmp p) q)) ip es) (λ ip. count_where t ip es) (i.counts (is_kept k))
-            (λ ip. count-placed ip ∙ ap (λ r. count_where (λ q. t q && not (is_at (cmp p) q)) ip es + one_if (is_from ip r)) (sym source_is));
-        queue = λ k. rules (λ a b. Queues cmp new.queue (due a b)) (queued (due_but old.private old.dns) (due old.private old.dns) (i.queue (is_kept k))
-            (not_due old.private old.dns) (λ q. due-placed old.private old.dns q ∙ ap (λ r. cond (is_at (cmp p) q) r (due_but old.private old.dns q)) (sym moment_is)));
-      }
-        where
-          rules : (Q : Bool → Bool → Type 0) → Q old.private old.dns → Q new.private new.dns
-          rules Q h = subst (λ a. Q a new.dns) (sym private_is) (subst (λ b. Q old.private b) (sym dns_is) h)
+      -- one that has none any longer is taken out
+      pub left-out : is_some (lookup (is_at (cmp p)) es) ≡ false
+          → new.sources ≡ without ghosts.cmp cmp (source, p) old.sources → new.queue ≡ without nat_cmp cmp (due, p) old.queue
+          → Follows cmp old new es p source due
+      left-out gone s q = λ before source_is due_is others was i.
+          let there = is_some (lookup (is_at (cmp p)) before) in
+          let none : (k : P) → is_at (cmp p) k ≡ true → lookup (is_at (cmp k)) es ≡ None = λ k h. sym (lookup_same o p k es h) ∙ no_record (lookup (is_at (cmp p)) es) gone in
+          record {
+            sources = subst (λ rows. Placed ghosts.cmp cmp rows (λ k. option_map source_of (lookup (is_at (cmp k)) es))) (sym s)
+                (placed-left derived_total o p old.sources (λ k. option_map source_of (lookup (is_at (cmp k)) before)) (λ k. option_map source_of (lookup (is_at (cmp k)) es)) i.sources source there
+                (source-at p before source source_is there refl) (λ k h. ap (option_map source_of) (none k h)) (λ k h. ap (option_map source_of) (others k h)));
+            queue = by_rules new.queue es
+                (subst (λ rows. Placed nat_cmp cmp rows (λ k. option_map (λ r. due_of r old.private old.dns) (lookup (is_at (cmp k)) es))) (sym q)
+                (placed-left nat_cmp_total o p old.queue (λ k. option_map (λ r. due_of r old.private old.dns) (lookup (is_at (cmp k)) before))
+                (λ k. option_map (λ r. due_of r old.private old.dns) (lookup (is_at (cmp k)) es)) i.queue due there
+                (due-at p before old.private old.dns due due_is there refl) (λ k h. ap (option_map (λ r. due_of r old.private old.dns)) (none k h))
+                (λ k h. ap (option_map (λ r. due_of r old.private old.dns)) (others k h))));
+          }
 
-  module _ (es new : List (P × Recorded)) (s : IsStrictlySortedBy cmp (keys_of es)) (r : IsStrictlySortedBy cmp (keys_of new)) (index : Index P) where
-    -- an index without a peer stays one where that peer's record alone changes
-    pub but-changed : (p : P) → ((q : P) → is_at (cmp p) q ≡ false → lookup (is_at (cmp q)) new ≡ lookup (is_at (cmp q)) es) → IndexesBut cmp p index es → IndexesBut cmp p index new
-    but-changed p h i = record {
-      counts = λ k. tallies_same ip_cmp index.counts.entries (λ ip. count_where (λ q. not (is_at (cmp p) q)) ip es) (λ ip. count_where (λ q. not (is_at (cmp p) q)) ip new)
-          (λ ip. counts-alike o (λ q x. not (is_at (cmp p) q) && is_from ip (source_of x)) (λ q x. not (is_at (cmp p) q) && is_from ip (source_of x))
-          (λ u v x e. ap (λ b. not b && is_from ip (source_of x)) (tie_same p u v e)) (λ u v x e. ap (λ b. not b && is_from ip (source_of x)) (tie_same p u v e)) es new s r
-          (λ q. at_key ip q (is_at (cmp p) q) refl)) (i.counts k);
-      queue = λ k. record { each = λ q t. (i.queue k).each q t ∙ ap (λ x. is_moment x t) (due_at q (is_at (cmp p) q) refl) };
-    }
-      where
-        at_key : (ip : IpAddr) (q : P) (b : Bool) → is_at (cmp p) q ≡ b
-            → passes (λ x. not b && is_from ip (source_of x)) (lookup (is_at (cmp q)) es) ≡ passes (λ x. not b && is_from ip (source_of x)) (lookup (is_at (cmp q)) new)
-        at_key ip q true e = passes_none (lookup (is_at (cmp q)) es) ∙ sym (passes_none (lookup (is_at (cmp q)) new))
-        at_key ip q false e = ap (passes (λ x. is_from ip (source_of x))) (sym (h q e))
+    blank_source : (b : Bool) (r : Option Recorded) → b ≡ true → r ≡ None → option_map source_of (blanked b r) ≡ Some None
+    blank_source true None h e = refl
+    blank_source true (Some r) h e = absurd (false≢true (sym (ap is_some e)))
+    blank_source false r h e = absurd (false≢true h)
 
-        due_at : (q : P) (b : Bool) → is_at (cmp p) q ≡ b
-            → cond (not b) (due_in (lookup (is_at (cmp q)) es) index.private index.dns) None ≡ cond (not b) (due_in (lookup (is_at (cmp q)) new) index.private index.dns) None
-        due_at q true e = refl
-        due_at q false e = ap (λ x. due_in x index.private index.dns) (sym (h q e))
+    unblanked : (b : Bool) (r : Option Recorded) → b ≡ false → blanked b r ≡ r
+    unblanked true r h = absurd (false≢true (sym h))
+    unblanked false None h = refl
+    unblanked false (Some r) h = refl
 
-    -- an index stays one where under each key what it has stays
-    pub standing-same : ((q : P) → source_in (lookup (is_at (cmp q)) new) ≡ source_in (lookup (is_at (cmp q)) es))
-        → ((q : P) (private dns : Bool) → due_in (lookup (is_at (cmp q)) new) private dns ≡ due_in (lookup (is_at (cmp q)) es) private dns)
-        → Indexes cmp index es → Indexes cmp index new
-    standing-same h g i = record {
-      counts = λ k. tallies_same ip_cmp index.counts.entries (λ ip. count_where (λ q. true) ip es) (λ ip. count_where (λ q. true) ip new)
-          (λ ip. counts-alike o (λ q x. is_from ip (source_of x)) (λ q x. is_from ip (source_of x)) (λ u v x e. refl) (λ u v x e. refl) es new s r
-          (λ q. passes-from ip (lookup (is_at (cmp q)) es) ∙ (ap (is_from ip) (sym (h q)) ∙ sym (passes-from ip (lookup (is_at (cmp q)) new))))) (i.counts k);
-      queue = λ k. record { each = λ q t. (i.queue k).each q t ∙ ap (λ x. is_moment x t) (sym (g q index.private index.dns)) };
-    }
+    new_source : (b : Bool) (r : Recorded) (x : Option Recorded) → b ≡ true → source_of r ≡ None → option_map source_of (cond b (Some r) x) ≡ Some None
+    new_source true r x h e = ap (λ s. Some s) e
+    new_source false r x h e = absurd (false≢true h)
 
--- a record that nothing needs has no part in an index
-unneeded : (m s i : Bool) → ((not m && not s) && i) ≡ true → (m ≡ false) × (s ≡ false)
-unneeded true s i e = absurd (false≢true e)
-unneeded false true i e = absurd (false≢true e)
-unneeded false false i e = (refl, refl)
+    new_due : (b : Bool) (r : Recorded) (x : Option Recorded) (y z : Bool) → b ≡ true → due_of r y z ≡ None → option_map (λ s. due_of s y z) (cond b (Some r) x) ≡ Some None
+    new_due true r x y z h e = ap (λ s. Some s) e
+    new_due false r x y z h e = absurd (false≢true h)
 
-neither : (a b : Bool) → (a || b) ≡ false → a ≡ false
-neither true b e = absurd (false≢true (sym e))
-neither false b e = refl
+    pub entered : new.sources ≡ insert_key (by_place ghosts.cmp cmp) old.sources (None, p) → new.queue ≡ insert_key (by_place nat_cmp cmp) old.queue (None, p) → Enters cmp old new p
+    entered s q = λ before after r none source due is i.
+        let was : (k : P) → is_at (cmp p) k ≡ true → lookup (is_at (cmp k)) before ≡ None = λ k h. sym (lookup_same o p k before h) ∙ none in
+        let others : (k : P) → is_at (cmp p) k ≡ false → lookup (is_at (cmp k)) after ≡ lookup (is_at (cmp k)) before =
+        λ k h. is k ∙ ap (λ b. cond b (Some r) (lookup (is_at (cmp k)) before)) h in
+        record {
+          sources = subst (λ rows. Placed ghosts.cmp cmp rows (λ k. option_map source_of (lookup (is_at (cmp k)) after))) (sym s)
+              (placed-entered derived_total o p old.sources (λ k. option_map source_of (lookup (is_at (cmp k)) before)) (λ k. option_map source_of (lookup (is_at (cmp k)) after)) i.sources
+              (λ k h. ap (option_map source_of) (was k h)) (λ k h. ap (option_map source_of) (is k) ∙ new_source (is_at (cmp p) k) r (lookup (is_at (cmp k)) before) h source)
+              (λ k h. ap (option_map source_of) (others k h)));
+          queue = by_rules new.queue after
+              (subst (λ rows. Placed nat_cmp cmp rows (λ k. option_map (λ x. due_of x old.private old.dns) (lookup (is_at (cmp k)) after))) (sym q)
+              (placed-entered nat_cmp_total o p old.queue (λ k. option_map (λ x. due_of x old.private old.dns) (lookup (is_at (cmp k)) before))
+              (λ k. option_map (λ x. due_of x old.private old.dns) (lookup (is_at (cmp k)) after)) i.queue
+              (λ k h. ap (option_map (λ x. due_of x old.private old.dns)) (was k h))
+              (λ k h. ap (option_map (λ x. due_of x old.private old.dns)) (is k) ∙ new_due (is_at (cmp p) k) r (lookup (is_at (cmp k)) before) old.private old.dns h (due old.private old.dns))
+              (λ k h. ap (option_map (λ x. due_of x old.private old.dns)) (others k h))));
+        }
 
-no_source : (r : Recorded) → is_deletable r ≡ true → source_of r ≡ None
-no_source r e = ap (λ s. cond (not (is_myself r.address) && s) (egress_in r.address) None) (unneeded (is_myself r.address) (is_in_sets r) (is_inert r.status) e).1 ∙ nothing (not (is_myself r.address)) r.address
-  where
-    nothing : (b : Bool) (a : Address) → cond (b && false) (egress_in a) None ≡ None
-    nothing true a = refl
-    nothing false a = refl
+    -- what was taken in is let go where the rest of it isn't
+    pub stayed : (rows : List (Option IpAddr × P)) → rows ≡ insert_key (by_place ghosts.cmp cmp) old.sources (None, p) → new.sources ≡ without ghosts.cmp cmp (None, p) rows
+        → new.queue ≡ old.queue → Stays cmp old new p
+    stayed rows r s q = λ es none i.
+        let place : P → Option (Option IpAddr) = λ k. option_map source_of (lookup (is_at (cmp k)) es) in
+        let more : P → Option (Option IpAddr) = λ k. option_map source_of (blanked (is_at (cmp p) k) (lookup (is_at (cmp k)) es)) in
+        let was : (k : P) → is_at (cmp p) k ≡ true → lookup (is_at (cmp k)) es ≡ None = λ k h. sym (lookup_same o p k es h) ∙ none in
+        let grown : Placed ghosts.cmp cmp rows more = subst (λ x. Placed ghosts.cmp cmp x more) (sym r)
+        (placed-entered derived_total o p old.sources place more i.sources (λ k h. ap (option_map source_of) (was k h))
+        (λ k h. blank_source (is_at (cmp p) k) (lookup (is_at (cmp k)) es) h (was k h))
+        (λ k h. ap (option_map source_of) (unblanked (is_at (cmp p) k) (lookup (is_at (cmp k)) es) h))) in
+        record {
+          sources = subst (λ x. Placed ghosts.cmp cmp x place) (sym s)
+              (placed-left derived_total o p rows more place grown None true (λ k h. blank_source (is_at (cmp p) k) (lookup (is_at (cmp k)) es) h (was k h))
+              (λ k h. ap (option_map source_of) (was k h)) (λ k h. ap (option_map source_of) (sym (unblanked (is_at (cmp p) k) (lookup (is_at (cmp k)) es) h))));
+          queue = by_rules new.queue es (subst (λ x. Placed nat_cmp cmp x (λ k. option_map (λ c. due_of c old.private old.dns) (lookup (is_at (cmp k)) es))) (sym q) i.queue);
+        }
 
-no_due : (r : Recorded) (private dns : Bool) → is_deletable r ≡ true → due_of r private dns ≡ None
-no_due r private dns e =
-    ap (λ b. cond (b && has_valid_ingress r.address private dns) (Some r.next_dial) None)
-    (neither (nat_lt 0 r.primary) (nat_lt 0 r.secondary) (unneeded (is_myself r.address) (is_in_sets r) (is_inert r.status) e).1)
+  pub stays-same : (p : P) (old new : Index P) → new.private ≡ old.private → new.dns ≡ old.dns → new.sources ≡ old.sources → new.queue ≡ old.queue → Stays cmp old new p
+  stays-same p old new private_is dns_is s q = λ es none i. record {
+    sources = subst (λ rows. Placed ghosts.cmp cmp rows (λ k. option_map source_of (lookup (is_at (cmp k)) es))) (sym s) i.sources;
+    queue = by_rules p old new private_is dns_is new.queue es (subst (λ rows. Placed nat_cmp cmp rows (λ k. option_map (λ r. due_of r old.private old.dns) (lookup (is_at (cmp k)) es))) (sym q) i.queue);
+  }
 
-module _ {X : Type 0} (f : Option Recorded → Option X) (none : f None ≡ None) where
-  pub without-unneeded : (b : Bool) (r : Option Recorded) → ((s : Recorded) → is_deletable s ≡ true → f (Some s) ≡ None) → f (cond b (needed r) r) ≡ f r
-  without-unneeded true None h = refl
-  without-unneeded true (Some s) h = at (is_deletable s) refl
-    where
-      at : (d : Bool) → is_deletable s ≡ d → f (cond d None (Some s)) ≡ f (Some s)
-      at true e = none ∙ sym (h s e)
-      at false e = refl
-  without-unneeded false r h = refl
+  -- an index stays one where each record stands where it stood
+  pub standing-same : (es new : List (P × Recorded)) (index : Index P) → ((q : P) → option_map source_of (lookup (is_at (cmp q)) new) ≡ option_map source_of (lookup (is_at (cmp q)) es))
+      → ((q : P) (private dns : Bool) → option_map (λ r. due_of r private dns) (lookup (is_at (cmp q)) new) ≡ option_map (λ r. due_of r private dns) (lookup (is_at (cmp q)) es))
+      → Indexes cmp index es → Indexes cmp index new
+  standing-same es new index h g i = record {
+    sources = placed-same index.sources (λ k. option_map source_of (lookup (is_at (cmp k)) es)) (λ k. option_map source_of (lookup (is_at (cmp k)) new)) i.sources h;
+    queue = placed-same index.queue (λ k. option_map (λ r. due_of r index.private index.dns) (lookup (is_at (cmp k)) es))
+        (λ k. option_map (λ r. due_of r index.private index.dns) (lookup (is_at (cmp k)) new)) i.queue (λ k. g k index.private index.dns);
+  }
 
-  pub without-released : (b : Bool) (r : Option Recorded) → ((s : Recorded) → is_deletable s ≡ true → f (Some s) ≡ None) → ((s : Recorded) → f (Some (released s)) ≡ f (Some s))
-      → f (cond b (without_need r) r) ≡ f r
-  without-released true None h g = refl
-  without-released true (Some s) h g = at (is_deletable (released s)) refl
-    where
-      at : (d : Bool) → is_deletable (released s) ≡ d → f (cond d None (Some (released s))) ≡ f (Some s)
-      at true e = none ∙ (sym (h (released s) e) ∙ g s)
-      at false e = g s
-  without-released false r h g = refl
+  some_before : (h : Option Recorded → Option Recorded) → h None ≡ None → (b : Bool) (r : Option Recorded) → is_some (cond b (h r) r) ≡ true → is_some r ≡ true
+  some_before h n true None e = sym (ap is_some n) ∙ e
+  some_before h n false None e = e
+  some_before h n b (Some r) e = refl
 
-  pub with-blank : (b : Bool) (r : Option Recorded) → f (Some (fresh (address.Known nowhere))) ≡ None → f (blanked b r) ≡ f r
-  with-blank true None h = h ∙ sym none
-  with-blank false None h = refl
-  with-blank b (Some s) h = refl
+  -- an index follows a change to one key's record
+  pub follow-changed : (p : P) (old new : Index P) (source : Option IpAddr) (due : Option ℕ) (es after : List (P × Recorded)) (h : Option Recorded → Option Recorded) → h None ≡ None
+      → ((q : P) → lookup (is_at (cmp q)) after ≡ cond (is_at (cmp p) q) (h (lookup (is_at (cmp q)) es)) (lookup (is_at (cmp q)) es))
+      → Follows cmp old new after p source due → source ≡ source_in (lookup (is_at (cmp p)) es) → due ≡ due_in (lookup (is_at (cmp p)) es) old.private old.dns
+      → Indexes cmp old es → Indexes cmp new after
+  follow-changed p old new source due es after h n is follows s d i =
+      follows es s d (λ q e. is q ∙ ap (λ b. cond b (h (lookup (is_at (cmp q)) es)) (lookup (is_at (cmp q)) es)) e)
+      (λ e. some_before h n (is_at (cmp p) p) (lookup (is_at (cmp p)) es) (sym (ap is_some (is p)) ∙ e)) i
 
-  pub with-connected : (b : Bool) (r : Option Recorded) → ((s : Recorded) → f (Some (connected s)) ≡ f (Some s)) → f (cond b (option_map connected r) r) ≡ f r
-  with-connected true None g = refl
-  with-connected true (Some s) g = g s
-  with-connected false r g = refl
+  -- the record under one key is written anew
+  pub follow-written : (p : P) (old new : Index P) (source : Option IpAddr) (due : Option ℕ) (es after : List (P × Recorded)) (f : Recorded → Recorded) → after ≡ written cmp (lookup (is_at (cmp p)) es) es p f
+      → Follows cmp old new after p source due → source ≡ source_in (lookup (is_at (cmp p)) es) → due ≡ due_in (lookup (is_at (cmp p)) es) old.private old.dns
+      → Indexes cmp old es → Indexes cmp new after
+  follow-written p old new source due es after f w =
+      follow-changed p old new source due es after (option_map f) refl (λ q. ap (lookup (is_at (cmp q))) w ∙ lookup-written o p q es f)
 
-module _ {P : Type 0} {cmp : P → P → Ordering} (o : IsTotalOrder cmp) (es new : List (P × Recorded)) (s : IsStrictlySortedBy cmp (keys_of es)) (r : IsStrictlySortedBy cmp (keys_of new)) (index : Index P) (p : P) where
-  -- the record that was found under the key changes
-  pub but-written : (f : Recorded → Recorded) → new ≡ written cmp (lookup (is_at (cmp p)) es) es p f → IndexesBut cmp p index es → IndexesBut cmp p index new
-  but-written f w i =
-      but-changed o es new s r index p
-      (λ q e. ap (lookup (is_at (cmp q))) w ∙ (lookup-written o p q es f ∙ ap (λ b. cond b (option_map f (lookup (is_at (cmp q)) es)) (lookup (is_at (cmp q)) es)) e)) i
+  connected-place : {X : Type 0} (f : Recorded → X) → ((r : Recorded) → f (connected r) ≡ f r) → (b : Bool) (r : Option Recorded) → option_map f (cond b (option_map connected r) r) ≡ option_map f r
+  connected-place f g true None = refl
+  connected-place f g true (Some r) = ap (λ x. Some x) (g r)
+  connected-place f g false r = refl
 
-  -- the peer leaves a set
-  pub but-left : (is_primary : Bool) → ((q : P) → lookup (is_at (cmp q)) new ≡ leaves is_primary (is_at (cmp p) q) (lookup (is_at (cmp q)) es)) → IndexesBut cmp p index es → IndexesBut cmp p index new
-  but-left is_primary w i = but-changed o es new s r index p (λ q e. w q ∙ ap (λ b. leaves is_primary b (lookup (is_at (cmp q)) es)) e) i
+  -- a connection that begins moves nothing
+  pub still-connected : (p : P) (index : Index P) (es new : List (P × Recorded)) → new ≡ written cmp (lookup (is_at (cmp p)) es) es p connected → Indexes cmp index es → Indexes cmp index new
+  still-connected p index es new w i =
+      standing-same es new index
+      (λ q. ap (option_map source_of) (ap (lookup (is_at (cmp q))) w ∙ lookup-written o p q es connected) ∙ connected-place source_of (λ r. refl) (is_at (cmp p) q) (lookup (is_at (cmp q)) es))
+      (λ q private dns. ap (option_map (λ r. due_of r private dns)) (ap (lookup (is_at (cmp q))) w ∙ lookup-written o p q es connected)
+      ∙ connected-place (λ r. due_of r private dns) (λ r. refl) (is_at (cmp p) q) (lookup (is_at (cmp q)) es)) i
 
-  pub still-forgotten : ((q : P) → lookup (is_at (cmp q)) new ≡ cond (is_at (cmp p) q) (needed (lookup (is_at (cmp q)) es)) (lookup (is_at (cmp q)) es)) → Indexes cmp index es → Indexes cmp index new
-  still-forgotten w i =
-      standing-same o es new s r index
-      (λ q. ap source_in (w q) ∙ without-unneeded source_in refl (is_at (cmp p) q) (lookup (is_at (cmp q)) es) no_source)
-      (λ q private dns. ap (λ x. due_in x private dns) (w q) ∙ without-unneeded (λ x. due_in x private dns) refl (is_at (cmp p) q) (lookup (is_at (cmp q)) es) (λ x e. no_due x private dns e)) i
+  -- an index of nothing
+  pub indexes-none : (index : Index P) → index.sources ≡ [] → index.queue ≡ [] → Indexes cmp index []
+  unfolding IsStrictlySortedBy
+  indexes-none index s q = record {
+    sources = subst (λ rows. Placed ghosts.cmp cmp rows (λ k. None)) (sym s) (record { each = λ k a. refl; ordered = tt });
+    queue = subst (λ rows. Placed nat_cmp cmp rows (λ k. None)) (sym q) (record { each = λ k a. refl; ordered = tt });
+  }
 
-  pub still-released : ((q : P) → lookup (is_at (cmp q)) new ≡ cond (is_at (cmp p) q) (without_need (lookup (is_at (cmp q)) es)) (lookup (is_at (cmp q)) es)) → Indexes cmp index es → Indexes cmp index new
-  still-released w i =
-      standing-same o es new s r index
-      (λ q. ap source_in (w q) ∙ without-released source_in refl (is_at (cmp p) q) (lookup (is_at (cmp q)) es) no_source (λ x. refl))
-      (λ q private dns. ap (λ x. due_in x private dns) (w q)
-      ∙ without-released (λ x. due_in x private dns) refl (is_at (cmp p) q) (lookup (is_at (cmp q)) es) (λ x e. no_due x private dns e) (λ x. refl)) i
+blank_as : (b : Bool) (r : Option Recorded) → (b ≡ true → r ≡ None) → blanked b r ≡ cond b (Some (fresh (address.Known nowhere))) r
+blank_as true None h = refl
+blank_as true (Some r) h = absurd (false≢true (sym (ap is_some (h refl))))
+blank_as false None h = refl
+blank_as false (Some r) h = refl
 
-  pub still-blank : ((q : P) → lookup (is_at (cmp q)) new ≡ blanked (is_at (cmp p) q) (lookup (is_at (cmp q)) es)) → Indexes cmp index es → Indexes cmp index new
-  still-blank w i =
-      standing-same o es new s r index
-      (λ q. ap source_in (w q) ∙ with-blank source_in refl (is_at (cmp p) q) (lookup (is_at (cmp q)) es) refl)
-      (λ q private dns. ap (λ x. due_in x private dns) (w q) ∙ with-blank (λ x. due_in x private dns) refl (is_at (cmp p) q) (lookup (is_at (cmp q)) es) refl) i
+blank_kept : (b : Bool) (r : Option Recorded) → (b ≡ true → is_some r ≡ true) → r ≡ blanked b r
+blank_kept true None h = absurd (false≢true (h refl))
+blank_kept false None h = refl
+blank_kept b (Some r) h = refl
 
-  pub still-connected : new ≡ written cmp (lookup (is_at (cmp p)) es) es p connected → Indexes cmp index es → Indexes cmp index new
-  still-connected w i =
-      standing-same o es new s r index
-      (λ q. ap source_in (ap (lookup (is_at (cmp q))) w ∙ lookup-written o p q es connected) ∙ with-connected source_in refl (is_at (cmp p) q) (lookup (is_at (cmp q)) es) (λ x. refl))
-      (λ q private dns. ap (λ x. due_in x private dns) (ap (lookup (is_at (cmp q))) w ∙ lookup-written o p q es connected)
-      ∙ with-connected (λ x. due_in x private dns) refl (is_at (cmp p) q) (lookup (is_at (cmp q)) es) (λ x. refl)) i
+module _ {P : Type 0} {cmp : P → P → Ordering} (o : IsTotalOrder cmp) (p : P) (es : List (P × Recorded)) where
+  -- a key that has a record needs no blank one
+  pub none-blanked : is_some (lookup (is_at (cmp p)) es) ≡ true → (q : P) → lookup (is_at (cmp q)) es ≡ blanked (is_at (cmp p) q) (lookup (is_at (cmp q)) es)
+  none-blanked h q = blank_kept (is_at (cmp p) q) (lookup (is_at (cmp q)) es) (λ e. ap is_some (sym (lookup_same o p q es e)) ∙ h)
 
-module _ {P : Type 0} (cmp : P → P → Ordering) (index : Index P) where
-  -- the node itself has no part in an index
-  pub indexes-local : (es : List (P × Recorded)) (p : P) (x : Recorded) → es ≡ (p, x) ∷ [] → x ≡ fresh address.Myself → index.counts.entries ≡ [] → index.queue.keys ≡ [] → Indexes cmp index es
-  unfolding how_many
-  indexes-local es p x e x_is c q =
-      let all = e ∙ ap (λ y. (p, y) ∷ []) x_is in
-      record {
-        counts = λ k. record { each = λ ip. ap (lookup (is_at (ip_cmp ip))) c ∙ sym (ap (λ ys. cond (nat_lt 0 (count_where (λ z. true) ip ys)) (Some (count_where (λ z. true) ip ys)) None) all) };
-        queue = λ k. record { each = λ z t. ap (list_any (is_at (by_moment cmp (t, z)))) q ∙ sym (ap (λ ys. is_moment (due_in (lookup (is_at (cmp z)) ys) index.private index.dns) t) all ∙ none (is_at (cmp z) p) t) };
-      }
-    where
-      none : (b : Bool) (t : ℕ) → is_moment (due_in (cond b (Some (fresh address.Myself)) None) index.private index.dns) t ≡ false
-      none true t = refl
-      none false t = refl
+  module _ (none : lookup (is_at (cmp p)) es ≡ None) (old new : Index P) (enters : Enters cmp old new p) (i : Indexes cmp old es) where
+    -- the index once its record is made
+    pub still-blank : (after : List (P × Recorded)) → ((q : P) → lookup (is_at (cmp q)) after ≡ blanked (is_at (cmp p) q) (lookup (is_at (cmp q)) es)) → Indexes cmp new after
+    still-blank after is =
+        enters es after (fresh (address.Known nowhere)) none refl (λ x y. refl)
+        (λ q. is q ∙ blank_as (is_at (cmp p) q) (lookup (is_at (cmp q)) es) (λ e. sym (lookup_same o p q es e) ∙ none)) i
+
+    -- and where it isn't
+    pub never-blank : (last : Index P) → Follows cmp new last es p None None → Indexes cmp last es
+    never-blank last follows =
+        let with : List (P × Recorded) = (p, fresh (address.Known nowhere)) ∷ es in
+        let found : (q : P) → lookup (is_at (cmp q)) with ≡ cond (is_at (cmp p) q) (Some (fresh (address.Known nowhere))) (lookup (is_at (cmp q)) es) = λ q. ap (λ b. cond b (Some (fresh (address.Known nowhere))) (lookup (is_at (cmp q)) es)) ((eq_by_cmp_equiv o).symm q p) in
+        let own = found p ∙ ap (λ b. cond b (Some (fresh (address.Known nowhere))) (lookup (is_at (cmp p)) es)) ((eq_by_cmp_equiv o).refl p) in
+        follows with (sym (ap source_in own)) (sym (ap (λ r. due_in r new.private new.dns) own))
+        (λ q h. sym (found q ∙ ap (λ b. cond b (Some (fresh (address.Known nowhere))) (lookup (is_at (cmp q)) es)) h)) (λ e. ap is_some own)
+        (enters es with (fresh (address.Known nowhere)) none refl (λ x y. refl) found i)

@@ -10,7 +10,6 @@ use Rattle.std.specs.Option.{option_map}
 use Rattle.std.specs.Map.{keys_of, lookup}
 use Rattle.std.specs.Ordering.{is_gt, nat_cmp}
 use Rattle.std.specs.BTreeMap.{is_at}
-use Rattle.std.specs.BTreeSet.{BTreeSet}
 use Rattle.std.specs.declared.cmp.Ordering.{Ordering}
 use Rattle.std.specs.declared.cmp.Ordering.TheVariants.{Less}
 use Rattle.p2p_base.specs.Moments.{by_moment, is_moment}
@@ -20,13 +19,14 @@ use Rattle.p2p_tracker_calls.specs.DialList.{earlier, earliest, comes_by}
 use Rattle.p2p_tracker_directory.specs.Recorded.{Recorded, is_myself, is_inert, has_valid_ingress}
 use Rattle.p2p_tracker_directory.specs.Tracked.{passes}
 use Rattle.p2p_tracker_directory.specs.Listed.{after_block, outlook, outlook_in, moment_of}
-use Rattle.p2p_tracker_directory.specs.Indexed.{due_in, waits, unblock_at, Queues}
+use Rattle.p2p_tracker_directory.specs.Indexed.{due_in, waits, unblock_at}
 use Rattle.p2p_tracker_directory.specs.declared.record.Address.{Address}
 use Rattle.p2p_tracker_directory.specs.declared.record.Address.TheVariants as address
 use Rattle.p2p_tracker_directory.specs.declared.record.DialStatus.TheVariants as dial
 use Rattle.p2p_tracker_directory.proofs.DueList.{below_from, both_true, at_moment}
 use Rattle.p2p_tracker_directory.proofs.Exact.{moments-same, if_some}
 use Rattle.p2p_tracker_directory.proofs.Found.{any-entries, entries-any, earliest-given, earliest-comes, no_sooner, no_later, comes-earlier_right}
+use Rattle.p2p_tracker_directory.proofs.Timed.{Queues}
 use Rattle.p2p_tracker_directory.proofs.Written.{lookup_same}
 
 comes_left : (a r : Option ℕ) (t : ℕ) → comes_by a t ≡ true → comes_by (earlier a r) t ≡ true
@@ -206,20 +206,20 @@ module _ {P : Type 0} {cmp : P → P → Ordering} (o : IsTotalOrder cmp) (es : 
       (any-entries cmp (λ k end. is_moment (unblock_at (lookup (is_at (cmp k)) es) end t) n) q blocks
       (λ k x e. ap (λ f. is_moment (unblock_at f x t) n) (lookup_same o q k es e)) h)
 
-  module _ (queue : BTreeSet (ℕ × P)) (ordered : IsStrictlySortedBy (by_moment cmp) queue.keys) (queued : Queues cmp queue (λ q. due_in (lookup (is_at (cmp q)) es) private dns)) where
+  module _ (queue : List (ℕ × P)) (ordered : IsStrictlySortedBy (by_moment cmp) queue) (queued : Queues cmp queue (λ q. due_in (lookup (is_at (cmp q)) es) private dns)) where
     waiting : ℕ × P → Bool
     waiting e = nat_lt t e.0 && waits (lookup (is_at (cmp e.1)) es) (lookup (is_at (cmp e.1)) blocks) t
 
-    pub next-due : earlier (option_map (λ e. e.0) (find (λ e. nat_lt t e.0 && waits (lookup (is_at (cmp e.1)) es) (lookup (is_at (cmp e.1)) blocks) t) queue.keys))
+    pub next-due : earlier (option_map (λ e. e.0) (find (λ e. nat_lt t e.0 && waits (lookup (is_at (cmp e.1)) es) (lookup (is_at (cmp e.1)) blocks) t) queue))
         (earliest (λ b. unblock_at (lookup (is_at (cmp b.0)) es) b.1 t) blocks)
         ≡ earliest (λ e. moment_of (outlook e.1 (lookup (is_at (cmp e.0)) blocks) t private dns)) es
     unfolding waiting query unblocks
     next-due =
-        moments-same (earlier (option_map (λ e. e.0) (find waiting queue.keys)) unblocks) query
-        (if_some (earlier (option_map (λ e. e.0) (find waiting queue.keys)) unblocks) (λ n. comes_by query n ≡ true) (λ n e.
-        either_moment (option_map (λ x. x.0) (find waiting queue.keys)) unblocks n (comes_by query n ≡ true) e
+        moments-same (earlier (option_map (λ e. e.0) (find waiting queue)) unblocks) query
+        (if_some (earlier (option_map (λ e. e.0) (find waiting queue)) unblocks) (λ n. comes_by query n ≡ true) (λ n e.
+        either_moment (option_map (λ x. x.0) (find waiting queue)) unblocks n (comes_by query n ≡ true) e
         (λ f.
-        let found = first-is o waiting queue.keys n f in
+        let found = first-is o waiting queue n f in
         let both = both_true (nat_lt t n) (waits (lookup (is_at (cmp found.0)) es) (lookup (is_at (cmp found.0)) blocks) t) found.1 in
         let due = has_moment (due_in (lookup (is_at (cmp found.0)) es) private dns) n (sym (sym (queued.each found.0 n) ∙ found.2)) in
         query-comes found.0 n (ap (λ m. is_moment m n) (due-moment (lookup (is_at (cmp found.0)) es) (lookup (is_at (cmp found.0)) blocks) n t private dns both.1 due both.0) ∙ eq-eqb n n refl))
@@ -227,15 +227,15 @@ module _ {P : Type 0} {cmp : P → P → Ordering} (o : IsTotalOrder cmp) (es : 
         let found = entries-any o (λ k end. is_moment (unblock_at (lookup (is_at (cmp k)) es) end t) n) blocks r
         (earliest-given (λ b. unblock_at (lookup (is_at (cmp b.0)) es) b.1 t) blocks n f) in
         query-comes found.0 n (block_moment (lookup (is_at (cmp found.0)) es) (lookup (is_at (cmp found.0)) blocks) n t private dns found.1))))
-        (if_some query (λ n. comes_by (earlier (option_map (λ e. e.0) (find waiting queue.keys)) unblocks) n ≡ true) (λ n e.
+        (if_some query (λ n. comes_by (earlier (option_map (λ e. e.0) (find waiting queue)) unblocks) n ≡ true) (λ n e.
         let found = entries-any o (λ k x. is_moment (moment_of (outlook x (lookup (is_at (cmp k)) blocks) t private dns)) n) es s
         (earliest-given (λ x. moment_of (outlook x.1 (lookup (is_at (cmp x.0)) blocks) t private dns)) es n e) in
         let q = found.0 in
-        split-moment (lookup (is_at (cmp q)) es) (lookup (is_at (cmp q)) blocks) n t private dns (comes_by (earlier (option_map (λ x. x.0) (find waiting queue.keys)) unblocks) n ≡ true)
+        split-moment (lookup (is_at (cmp q)) es) (lookup (is_at (cmp q)) blocks) n t private dns (comes_by (earlier (option_map (λ x. x.0) (find waiting queue)) unblocks) n ≡ true)
         (sym (passes-moment (lookup (is_at (cmp q)) es) (lookup (is_at (cmp q)) blocks) n t private dns) ∙ found.1)
-        (λ b. comes-earlier_right (option_map (λ x. x.0) (find waiting queue.keys)) unblocks n (unblocks-come q n b))
-        (λ w d l. comes_left (option_map (λ x. x.0) (find waiting queue.keys)) unblocks n
-        (first-comes o n q waiting (λ x h. waits_too q n w l x (both_true (n == x.0) (is_at (cmp q) x.1) (sym (at_moment o n q n x) ∙ h))) queue.keys ordered (queued.each q n ∙ d)))))
+        (λ b. comes-earlier_right (option_map (λ x. x.0) (find waiting queue)) unblocks n (unblocks-come q n b))
+        (λ w d l. comes_left (option_map (λ x. x.0) (find waiting queue)) unblocks n
+        (first-comes o n q waiting (λ x h. waits_too q n w l x (both_true (n == x.0) (is_at (cmp q) x.1) (sym (at_moment o n q n x) ∙ h))) queue ordered (queued.each q n ∙ d)))))
       where
         waits_too : (q : P) (n : ℕ) → waits (lookup (is_at (cmp q)) es) (lookup (is_at (cmp q)) blocks) t ≡ true → nat_lt t n ≡ true → (x : ℕ × P)
             → ((n == x.0) ≡ true) × (is_at (cmp q) x.1 ≡ true) → waiting x ≡ true

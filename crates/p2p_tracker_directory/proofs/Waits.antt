@@ -8,7 +8,7 @@ use Rattle.std.specs.BTreeMap.{is_at}
 use Rattle.std.specs.declared.cmp.Ordering.{Ordering}
 use Rattle.p2p_address.specs.declared.peer.Address.{Address as PeerAddress}
 use Rattle.p2p_tracker_calls.specs.declared.call.Call.{Call}
-use Rattle.p2p_tracker_calls.specs.Sets.{is_tracked, is_primary, primary_sets, secondary_sets}
+use Rattle.p2p_tracker_calls.specs.Sets.{is_primary, primary_sets, secondary_sets}
 use Rattle.p2p_tracker_calls.specs.Grants.{Grant, is_held}
 use Rattle.p2p_tracker_calls.specs.Blocks.{is_local}
 use Rattle.p2p_tracker_calls.specs.Lives.{is_alive, address_of, last_grant, is_stale, is_connected, next_after}

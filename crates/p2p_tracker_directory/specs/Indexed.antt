@@ -1,21 +1,31 @@
--- How many peers dial from each address, and when each peer comes up for a dial.
-use Rattle.std.specs.Prelude.{◌≡◌, ℕ, Bool, true, false, cond, not, ◌&&◌, nat_lt, List, Option, Some, None}
+-- From where each peer dials, and when each comes up for a dial.
+use Rattle.std.specs.Prelude.{◌≡◌, ℕ, Bool, true, false, cond, not, ◌&&◌, nat_lt, is_some, List, Option, Some, None, filter_map}
+use Rattle.std.specs.List.{list_any}
+use Rattle.std.specs.List.Sorted.{IsStrictlySortedBy}
+use Rattle.std.specs.Option.{option_map, option_cmp}
+use Rattle.std.specs.Ordering.{is_eq, nat_cmp}
 use Rattle.std.specs.Map.{lookup, lookup_key}
 use Rattle.std.specs.BTreeMap.{is_at}
-use Rattle.std.specs.BTreeSet.{BTreeSet, contains}
 use Rattle.std.specs.declared.cmp.Ordering.{Ordering}
+use Rattle.p2p_address.specs.contracts.ip.IpAddrOrd.TheImpl.{ghosts}
 use Rattle.p2p_address.specs.declared.ip.IpAddr.{IpAddr}
-use Rattle.p2p_base.specs.Moments.{by_moment, is_moment}
 use Rattle.p2p_tracker_calls.specs.Heard.{ip_cmp}
 use Rattle.p2p_tracker_calls.specs.Sets.{how_many}
 use Rattle.p2p_tracker_calls.specs.Blocks.{lasts_at}
+use Rattle.p2p_tracker_directory.specs.Placed.{by_place}
 use Rattle.p2p_tracker_directory.specs.Recorded.{Recorded, is_inert, is_myself, is_eligible, egress_in, has_valid_ingress}
 use Rattle.p2p_tracker_directory.specs.Listed.{outlook_in, is_now}
 use Rattle.p2p_tracker_directory.specs.declared.directory.index.Index.{Index}
 
--- the records as the rest of the directory sees them
+-- the records as the rest of the directory sees them, and whether addresses that aren't global may be dialed, and names
 pub record Roster (P : Type 0) : Type 0 where
   pub entries : List (P × Recorded)
+  pub private : Bool
+  pub dns : Bool
+
+-- the records are kept by these rules
+abbrev pub HasRules : {P : Type 0} → Bool → Bool → Roster P → Type 0
+HasRules private dns records = (records.private ≡ private) × (records.dns ≡ dns)
 
 -- the address that another peer in a set dials from
 abbrev pub source_of : Recorded → Option IpAddr
@@ -47,28 +57,60 @@ module _ {K : Type 0} (cmp : K → K → Ordering) where
   pub record Tallies (counts : List (K × ℕ)) (n : K → ℕ) : Type 0 where
     pub each : (k : K) → lookup (is_at (cmp k)) counts ≡ positive (n k)
 
-  -- a queue has each key at its moment, where it has one, and nothing else
-  pub record Queues (queue : BTreeSet (ℕ × K)) (due : K → Option ℕ) : Type 0 where
-    pub each : (k : K) (t : ℕ) → contains (by_moment cmp) queue (t, k) ≡ is_moment (due k) t
+module _ {A K : Type 0} (place_cmp : A → A → Ordering) (key_cmp : K → K → Ordering) where
+  -- the place is the key's, where that is among those that have one, or none
+  abbrev pub is_placed : Option (Option A) → Option A → Bool
+  is_placed None a = false
+  is_placed (Some b) a = is_eq (option_cmp place_cmp b a)
+
+module _ {A K : Type 0} (place_cmp : A → A → Ordering) (key_cmp : K → K → Ordering) where
+  -- the entries in order are each key at its place, and nothing else
+  pub record Placed (rows : List (Option A × K)) (place : K → Option (Option A)) : Type 0 where
+    pub each : (k : K) (a : Option A) → list_any (is_at (by_place place_cmp key_cmp (a, k))) rows ≡ is_placed place_cmp key_cmp (place k) a
+    pub ordered : IsStrictlySortedBy (by_place place_cmp key_cmp) rows
+
+-- the keys that have a moment, with it
+abbrev pub timed : {K : Type 0} → List (Option ℕ × K) → List (ℕ × K)
+timed es = filter_map (λ e. option_map (λ t. (t, e.1)) e.0) es
+
+-- the key of an entry that is found and has a moment, with it
+abbrev pub timed_in : {K : Type 0} → Option (Option ℕ × K) → Option (ℕ × K)
+timed_in None = None
+timed_in (Some e) = option_map (λ t. (t, e.1)) e.0
+
+-- what a function finds of what there is
+abbrev pub found_by : {X Y : Type 0} → (X → Option Y) → Option X → Option Y
+found_by f None = None
+found_by f (Some x) = f x
 
 -- how many of the keys that pass are of another peer in a set that dials from the address
 abbrev pub count_where : {P : Type 0} → (P → Bool) → IpAddr → List (P × Recorded) → ℕ
 count_where test ip es = how_many (λ e. test e.0 && is_from ip (source_of e.1)) es
 
-module _ {P : Type 0} (cmp : P → P → Ordering) (test : P → Bool) where
-  -- an index that is kept counts the addresses of the keys that pass, and has the moments of those of them that are to be dialed
-  pub record IndexesWhere (index : Index P) (es : List (P × Recorded)) : Type 0 where
-    pub counts : index.is_kept ≡ true → Tallies ip_cmp index.counts.entries (λ ip. count_where test ip es)
-    pub queue : index.is_kept ≡ true → Queues cmp index.queue (λ q. cond (test q) (due_in (lookup (is_at (cmp q)) es) index.private index.dns) None)
-
 module _ {P : Type 0} (cmp : P → P → Ordering) where
-  -- an index of all records
-  abbrev pub Indexes : Index P → List (P × Recorded) → Type 0
-  Indexes index es = IndexesWhere cmp (λ q. true) index es
+  -- an index has each key that has a record, at the address that it dials from, and at the moment at which it is listed
+  pub record Indexes (index : Index P) (es : List (P × Recorded)) : Type 0 where
+    pub sources : Placed ghosts.cmp cmp index.sources (λ q. option_map source_of (lookup (is_at (cmp q)) es))
+    pub queue : Placed nat_cmp cmp index.queue (λ q. option_map (λ r. due_of r index.private index.dns) (lookup (is_at (cmp q)) es))
 
-  -- an index of all but the key's
-  abbrev pub IndexesBut : P → Index P → List (P × Recorded) → Type 0
-  IndexesBut p index es = IndexesWhere cmp (λ q. not (is_at (cmp p) q)) index es
+  -- the index once one key's record changed, or was left out
+  abbrev pub Follows : Index P → Index P → List (P × Recorded) → P → Option IpAddr → Option ℕ → Type 0
+  Follows old new es p source due = (before : List (P × Recorded))
+      → source ≡ source_in (lookup (is_at (cmp p)) before) → due ≡ due_in (lookup (is_at (cmp p)) before) old.private old.dns
+      → ((q : P) → is_at (cmp p) q ≡ false → lookup (is_at (cmp q)) es ≡ lookup (is_at (cmp q)) before)
+      → (is_some (lookup (is_at (cmp p)) es) ≡ true → is_some (lookup (is_at (cmp p)) before) ≡ true)
+      → Indexes old before → Indexes new es
+
+  -- the index once a key is taken in that is about to have a record with no place
+  abbrev pub Enters : Index P → Index P → P → Type 0
+  Enters old new p = (before after : List (P × Recorded)) (r : Recorded) → lookup (is_at (cmp p)) before ≡ None
+      → source_of r ≡ None → ((private dns : Bool) → due_of r private dns ≡ None)
+      → ((q : P) → lookup (is_at (cmp q)) after ≡ cond (is_at (cmp p) q) (Some r) (lookup (is_at (cmp q)) before))
+      → Indexes old before → Indexes new after
+
+  -- the index of a key that has no record stays
+  abbrev pub Stays : Index P → Index P → P → Type 0
+  Stays old new p = (es : List (P × Recorded)) → lookup (is_at (cmp p)) es ≡ None → Indexes old es → Indexes new es
 
 -- the key as its record has it, where it is to be dialed at the moment
 abbrev pub due_key : {P : Type 0} → (P → Bool) → List (P × Recorded) → List (P × ℕ) → ℕ → Bool → Bool → Option P

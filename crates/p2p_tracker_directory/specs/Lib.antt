@@ -1,5 +1,7 @@
 pub mod Indexed
+pub mod Linked
 pub mod Listed
+pub mod Placed
 pub mod Recorded
 pub mod Reserved
 pub mod Stands

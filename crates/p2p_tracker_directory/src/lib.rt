@@ -3,6 +3,7 @@
 
 pub mod directory;
 pub mod metadata;
+mod places;
 pub mod record;
 pub mod reservation;
 

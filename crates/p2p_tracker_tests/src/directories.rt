@@ -1,5 +1,5 @@
 //! Directories, by each of their calls.
-use crate::peers::{address, alone, directory, ip, sharing, socket, tracking};
+use crate::peers::{address, alone, directory, ip, sharing, socket, spread, tracking};
 use p2p_address::Ingress;
 use p2p_base::{Feedback, Key};
 use p2p_tracker_directory::Metadata;
@@ -136,4 +136,29 @@ fn a_directory_asks_again_when_a_peer_comes_up_for_a_dial(rt: HostRuntime) {
     assert_eq!(rt; whom.peers.as_slice(), [Key(2)].as_slice());
     assert_eq!(rt; whom.next_query_at, None);
     assert_eq!(rt; directory.listenable_count(&ip(2), 102), 2);
+}
+
+// Of the keys 1 to 200 each goes from one of seven hosts to one of eleven, and is granted and given back at a moment of its own.
+#[test]
+fn a_directory_follows_many_peers_that_move(rt: HostRuntime) {
+    let mut directory = spread(rt.alloc(), 201).expect(&rt, "memory");
+    assert_eq!(rt; directory.listenable_count(&ip(6), 0), 28);
+    for key in 1..201 {
+        let host = u8::try_from(key * 5 % 11).unwrap_or(0);
+        let moved = directory.overwrite(&Key(key), address(host));
+        assert_eq!(rt; moved, Ok(u64::from(host) != key % 7));
+        let at = key * 37 % 200;
+        let granted = directory.dial(&Key(key), at, 0).expect(&rt, "memory");
+        assert!(rt; granted.is_some() && directory.may_release(&Key(key)));
+        directory.release(&Metadata::Dialer(Key(key)));
+    }
+    let heard = directory.listenable(0).expect(&rt, "memory");
+    assert_eq!(rt; heard.len(), 11);
+    assert_eq!(rt; directory.listenable_count(&ip(0), 0), 18);
+    assert_eq!(rt; directory.listenable_count(&ip(5), 0), 19);
+    assert_eq!(rt; directory.next_query_at(0), Some(100));
+    let whom = directory.dialable(149).expect(&rt, "memory");
+    assert!(rt; whom.peers.len() == 50 && whom.next_query_at == Some(150));
+    assert_eq!(rt; directory.next_query_at(298), Some(299));
+    assert_eq!(rt; directory.next_query_at(299), None);
 }

@@ -69,3 +69,16 @@ pub fn tracking(alloc: Global) -> Result<Directory<Key>, AllocError> {
     directory.track(3, alone(alloc, 7, 7)?)?;
     Ok(directory)
 }
+
+// The same of the keys from 1 up to `keys`, each at one of the hosts 0 to 6, in turn.
+pub fn spread(alloc: Global, keys: u64) -> Result<Directory<Key>, AllocError> {
+    let mut directory = directory(alloc)?;
+    let mut pairs = Vec::new(alloc);
+    for key in 1..keys {
+        let host = u8::try_from(key % 7).unwrap_or(0);
+        pairs.push((Key(key), address(host)))?;
+    }
+    let peers = Map::try_from(pairs).map_err(|_| AllocError)?;
+    directory.track(1, AddressableTrackedPeers::primary(alloc, peers))?;
+    Ok(directory)
+}

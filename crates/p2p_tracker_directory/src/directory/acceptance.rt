@@ -8,6 +8,7 @@ ghost use Rattle.p2p_tracker_calls.specs.Sets.{PeerSet, is_above, is_among, set_
 ghost use Rattle.p2p_tracker_calls.specs.Kills.{is_killed};
 ghost use Rattle.p2p_tracker_calls.specs.declared.call.Call.{Call};
 ghost use Rattle.p2p_tracker_calls.specs.declared.call.Call.TheVariants as call;
+ghost use Rattle.p2p_tracker_directory.specs.Indexed.{HasRules};
 ghost use Rattle.p2p_tracker_directory.specs.Tracked.{Fell, enters, is_above_latest};
 ghost use Rattle.p2p_tracker_directory.specs.Stands.{StandsFor};
 
@@ -28,6 +29,7 @@ fn take_up<C: PublicKey>(records: &mut Records<C>, newcomers: Newcomers<C>) -> T
     ensures set { result ≡ newcomers.set }
     ensures records { (q : C) → lookup (is_at (C.cmp q)) records.new.entries
         ≡ enters false (lookup (λ p. is_at (C.cmp p) q) newcomers.secondary.items) (enters true (lookup (λ p. is_at (C.cmp p) q) newcomers.primary.items) (lookup (is_at (C.cmp q)) records.old.entries)) }
+    ensures rules { HasRules records.old.private records.old.dns records.new }
 {
     enrol(records, newcomers.primary, true);
     enrol(records, newcomers.secondary, false);

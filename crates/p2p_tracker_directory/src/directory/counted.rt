@@ -1,5 +1,5 @@
 //! From where peers come, by the counts.
-ghost use Rattle.std.specs.Prelude.{◌≡◌, ℕ, ◌-◌, ◌&&◌, ◌||◌, cond, None, nat_lt, IfOk};
+ghost use Rattle.std.specs.Prelude.{◌≡◌, ℕ, ◌+◌, ◌-◌, ◌<◌, true, ◌&&◌, ◌||◌, cond, None, nat_lt, IfOk};
 ghost use Rattle.std.specs.List.{filter};
 ghost use Rattle.std.specs.List.Sorted.{IsStrictlySortedBy};
 ghost use Rattle.std.specs.Map.{lookup, keys_of};
@@ -8,12 +8,13 @@ ghost use Rattle.p2p_address.specs.Addresses.{is_global};
 ghost use Rattle.p2p_address.specs.declared.ip.IpAddr.{IpAddr};
 ghost use Rattle.p2p_tracker_calls.specs.Heard.{ip_cmp};
 ghost use Rattle.p2p_tracker_calls.specs.Sets.{how_many};
-ghost use Rattle.p2p_tracker_directory.specs.Indexed.{source_of, source_in, is_from, is_blocked_from, count_in, Tallies};
+ghost use Rattle.p2p_tracker_directory.specs.Indexed.{source_in, is_from, is_blocked_from, Tallies};
 
 use crate::Record;
-use crate::directory::blocks::{is_after, lasts};
-use crate::directory::index::{count_in, source_in, source_of};
-use crate::directory::tallies::tally;
+use crate::directory::blocks::is_after;
+use crate::directory::index::source_in;
+use crate::directory::tallies::{raise, tally};
+use crate::places::Places;
 use p2p_address::{IpAddr, is_global};
 use p2p_base::{PrioritySet, PublicKey};
 use std::alloc::{AllocError, Global};
@@ -44,14 +45,16 @@ fn blocked_source<C: PublicKey>(
     None
 }
 
-// The address that a peer dials from, unless it is blocked.
-fn free_source(known: &Record, is_blocked: bool) -> Option<IpAddr>
-    ensures { result ≡ cond is_blocked None (source_of known.now) }
+// Counts some more peers that dial from the address, if there is one. False where memory runs out.
+fn count_in(counts: &mut BTreeMap<IpAddr, usize>, source: Option<IpAddr>, more: usize) -> bool
+    requires { 0 < more }
+    ensures { result ≡ true → (n m : IpAddr → ℕ) → Tallies ip_cmp counts.old.entries n → ((ip : IpAddr) → m ip ≡ n ip + cond (is_from ip source) more 0)
+        → Tallies ip_cmp counts.new.entries m }
 {
-    if is_blocked {
-        return None;
+    match source {
+        Some(ip) => raise(counts, ip, more),
+        None => true,
     }
-    source_of(known)
 }
 
 // How many of a number of peers that dial from an address aren't blocked.
@@ -73,22 +76,24 @@ pub(super) fn without_blocked<C: PublicKey>(
     left
 }
 
-// The same by the records alone.
-pub(super) fn count_all<C: PublicKey>(
-    records: &BTreeMap<C, Record>,
-    blocks: &PrioritySet<C>,
-    ip: &IpAddr,
-    now: u64,
-) -> usize
-    ensures { result ≡ count_in C.cmp records.now.entries blocks.now ip.now now }
+// How many peers dial from each address.
+pub(super) fn counts_of<C: PublicKey>(
+    alloc: Global,
+    sources: &Places<IpAddr, C>,
+) -> Result<BTreeMap<IpAddr, usize>, AllocError>
+    ensures { IfOk result (λ counts. Tallies ip_cmp counts.entries (λ ip. how_many (λ e. is_from ip e.0) sources.now)) }
 {
-    let mut count = 0;
-    for (peer, known) in records {
-        if is_from(ip, free_source(known, lasts(blocks.get(peer), now))) {
-            count += 1;
+    let mut counts = BTreeMap::new(alloc);
+    let mut at = sources.through(None);
+    while let Some((source, _)) = sources.get(at) {
+        let next = sources.through(source);
+        let is_counted = count_in(&mut counts, source, next - at);
+        if !is_counted {
+            return Err(AllocError);
         }
+        at = next;
     }
-    count
+    Ok(counts)
 }
 
 // How many peers that are blocked dial from each address.
@@ -102,7 +107,7 @@ pub(super) fn blocked_counts<C: PublicKey>(
 {
     let mut counts = BTreeMap::new(alloc);
     for (peer, end) in blocks.iter() {
-        let is_counted = count_in(&mut counts, blocked_source(records, peer, *end, now));
+        let is_counted = count_in(&mut counts, blocked_source(records, peer, *end, now), 1);
         if !is_counted {
             return Err(AllocError);
         }

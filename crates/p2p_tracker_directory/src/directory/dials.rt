@@ -15,7 +15,6 @@ use crate::directory::records::Records;
 use crate::{DialStatus, Record};
 use p2p_base::{List, PrioritySet, PublicKey};
 use std::alloc::{AllocError, Global};
-use std::collections::BTreeMap;
 
 /// Whom a directory lists for a dial.
 ///
@@ -67,16 +66,6 @@ pub(super) fn is_now(status: DialStatus) -> bool
     }
 }
 
-fn moment_of(status: DialStatus) -> Option<u128>
-    ensures { result ≡ moment_of status }
-{
-    match status {
-        DialStatus::Now => None,
-        DialStatus::After(moment) => Some(moment),
-        DialStatus::Unavailable => None,
-    }
-}
-
 // The lesser of two moments, or the one that there is.
 pub(super) fn earlier(one: Option<u128>, other: Option<u128>) -> Option<u128>
     ensures { result ≡ earlier one other }
@@ -93,26 +82,6 @@ pub(super) fn earlier(one: Option<u128>, other: Option<u128>) -> Option<u128>
     Some(first)
 }
 
-// The peers to be dialed now, by their records alone.
-fn walked_peers<C: PublicKey>(
-    alloc: Global,
-    records: &BTreeMap<C, Record>,
-    blocks: &PrioritySet<C>,
-    cfg: &Config,
-    now: u64,
-) -> Result<Vec<C>, AllocError>
-    ensures { IfOk result (λ v. v.items ≡ keys_of (filter
-        (λ e. is_now (outlook e.1 (lookup (is_at (C.cmp e.0)) blocks.now) now cfg.now.allow_private_ips cfg.now.allow_dns)) records.now.entries)) }
-{
-    let mut peers = Vec::new(alloc);
-    for (peer, known) in records {
-        if is_now(outlook(known, blocks.get(peer), cfg, now)) {
-            peers.push(*peer)?;
-        }
-    }
-    Ok(peers)
-}
-
 // The peers to be dialed now, in key order.
 pub(super) fn dialable_peers<C: PublicKey>(
     alloc: Global,
@@ -121,51 +90,29 @@ pub(super) fn dialable_peers<C: PublicKey>(
     cfg: &Config,
     now: u64,
 ) -> Result<Vec<C>, AllocError>
+    requires private { records.now.private ≡ cfg.now.allow_private_ips }
+    requires dns { records.now.dns ≡ cfg.now.allow_dns }
     ensures peers { IfOk result (λ v. v.items ≡ keys_of (filter
         (λ e. is_now (outlook e.1 (lookup (is_at (C.cmp e.0)) blocks.now) now cfg.now.allow_private_ips cfg.now.allow_dns)) records.now.entries)) }
     ensures ordered { IsStrictlySortedBy C.cmp (keys_of records.now.entries) }
 {
     records.stand_in_order();
-    if records.index.serves(cfg) {
-        let found = due_peers(alloc, &records.index.queue, &records.map, blocks, cfg, now)?;
-        let listed = each_once(found)?;
-        return Ok(listed);
-    }
-    let walked = walked_peers(alloc, &records.map, blocks, cfg, now)?;
-    Ok(walked)
-}
-
-// The first moment at which a peer may be dialed that may not be now, by the records alone.
-fn walked_query<C: PublicKey>(
-    records: &BTreeMap<C, Record>,
-    blocks: &PrioritySet<C>,
-    cfg: &Config,
-    now: u64,
-) -> Option<u128>
-    ensures { result ≡ earliest (λ e. moment_of (outlook e.1 (lookup (is_at (C.cmp e.0)) blocks.now) now cfg.now.allow_private_ips cfg.now.allow_dns)) records.now.entries }
-{
-    let mut next = None;
-    for (peer, known) in records {
-        next = earlier(next, moment_of(outlook(known, blocks.get(peer), cfg, now)));
-    }
-    next
+    let found = due_peers(alloc, &records.index.queue, &records.map, blocks, cfg, now)?;
+    let listed = each_once(found)?;
+    Ok(listed)
 }
 
 // The first moment at which a peer may be dialed that may not be now.
 pub(super) fn next_query<C: PublicKey>(
     records: &Records<C>,
     blocks: &PrioritySet<C>,
-    cfg: &Config,
     now: u64,
 ) -> Option<u128>
     requires { IsStrictlySortedBy C.cmp (keys_of blocks.now) }
-    ensures { result ≡ earliest (λ e. moment_of (outlook e.1 (lookup (is_at (C.cmp e.0)) blocks.now) now cfg.now.allow_private_ips cfg.now.allow_dns)) records.now.entries }
+    ensures { result ≡ earliest (λ e. moment_of (outlook e.1 (lookup (is_at (C.cmp e.0)) blocks.now) now records.now.private records.now.dns)) records.now.entries }
 {
     records.stand_in_order();
-    if records.index.serves(cfg) {
-        let due = next_due(&records.index.queue, &records.map, blocks, now);
-        let unblock = next_unblock(&records.map, blocks, now);
-        return earlier(due, unblock);
-    }
-    walked_query(&records.map, blocks, cfg, now)
+    let due = next_due(&records.index.queue, &records.map, blocks, now);
+    let unblock = next_unblock(&records.map, blocks, now);
+    earlier(due, unblock)
 }

@@ -4,6 +4,7 @@ ghost use Rattle.std.specs.List.Sorted.{IsStrictlySortedBy};
 ghost use Rattle.std.specs.Map.{lookup, keys_of};
 ghost use Rattle.std.specs.BTreeMap.{is_at};
 ghost use Rattle.p2p_tracker_calls.specs.Sets.{is_among};
+ghost use Rattle.p2p_tracker_directory.specs.Indexed.{HasRules};
 ghost use Rattle.p2p_tracker_directory.specs.Tracked.{blanked, swept, enters, leaves, retired, is_primary_of, is_secondary_of};
 
 use crate::directory::records::Records;
@@ -20,6 +21,7 @@ pub(super) fn make_blanks<C: PublicKey>(
     ensures made { OnOk result ((q : C) → lookup (is_at (C.cmp q)) records.new.entries ≡ blanked (is_among C.cmp peers.now q) (lookup (is_at (C.cmp q)) records.old.entries)) }
     ensures memory { OnErr result ((q : C) → swept (is_among C.cmp peers.now q) (lookup (is_at (C.cmp q)) records.new.entries)
         ≡ swept (is_among C.cmp peers.now q) (lookup (is_at (C.cmp q)) records.old.entries)) }
+    ensures rules { HasRules records.old.private records.old.dns records.new }
 {
     for peer in peers {
         records.make_blank(peer)?;
@@ -30,7 +32,8 @@ pub(super) fn make_blanks<C: PublicKey>(
 // Forgets those of the peers that nothing needs.
 pub(super) fn sweep<C: PublicKey>(records: &mut Records<C>, peers: &[C])
     requires { IsStrictlySortedBy C.cmp peers.now }
-    ensures { (q : C) → lookup (is_at (C.cmp q)) records.new.entries ≡ swept (is_among C.cmp peers.now q) (lookup (is_at (C.cmp q)) records.old.entries) }
+    ensures each { (q : C) → lookup (is_at (C.cmp q)) records.new.entries ≡ swept (is_among C.cmp peers.now q) (lookup (is_at (C.cmp q)) records.old.entries) }
+    ensures rules { HasRules records.old.private records.old.dns records.new }
 {
     for peer in peers {
         records.forget(peer);
@@ -44,8 +47,9 @@ pub(super) fn enrol<C: PublicKey>(
     is_primary: bool,
 )
     requires { IsStrictlySortedBy C.cmp (keys_of peers.items) }
-    ensures { (q : C) → lookup (is_at (C.cmp q)) records.new.entries
+    ensures each { (q : C) → lookup (is_at (C.cmp q)) records.new.entries
         ≡ enters is_primary (lookup (λ p. is_at (C.cmp p) q) peers.items) (lookup (is_at (C.cmp q)) records.old.entries) }
+    ensures rules { HasRules records.old.private records.old.dns records.new }
 {
     for (peer, address) in peers {
         records.enter(&peer, address, is_primary);
@@ -55,7 +59,8 @@ pub(super) fn enrol<C: PublicKey>(
 // Takes the peers out of a set in which they had this role, and forgets those that nothing needs then.
 pub(super) fn retire<C: PublicKey>(records: &mut Records<C>, peers: &[C], is_primary: bool)
     requires { IsStrictlySortedBy C.cmp peers.now }
-    ensures { (q : C) → lookup (is_at (C.cmp q)) records.new.entries ≡ leaves is_primary (is_among C.cmp peers.now q) (lookup (is_at (C.cmp q)) records.old.entries) }
+    ensures each { (q : C) → lookup (is_at (C.cmp q)) records.new.entries ≡ leaves is_primary (is_among C.cmp peers.now q) (lookup (is_at (C.cmp q)) records.old.entries) }
+    ensures rules { HasRules records.old.private records.old.dns records.new }
 {
     for peer in peers {
         records.leave(peer, is_primary);
@@ -71,6 +76,7 @@ pub(super) fn make_room<C: PublicKey>(
         ≡ blanked (is_among C.cmp set.now.secondary q) (blanked (is_among C.cmp set.now.primary q) (lookup (is_at (C.cmp q)) records.old.entries))) }
     ensures memory { OnErr result ((q : C) → lookup (is_at (C.cmp q)) records.new.entries
         ≡ swept (is_among C.cmp set.now.primary q) (swept (is_among C.cmp set.now.secondary q) (lookup (is_at (C.cmp q)) records.old.entries))) }
+    ensures rules { HasRules records.old.private records.old.dns records.new }
 {
     if make_both(records, set).is_err() {
         sweep(records, set.secondary.as_slice());
@@ -85,6 +91,7 @@ fn make_both<C: PublicKey>(records: &mut Records<C>, set: &TrackedSet<C>) -> Res
         ≡ blanked (is_among C.cmp set.now.secondary q) (blanked (is_among C.cmp set.now.primary q) (lookup (is_at (C.cmp q)) records.old.entries))) }
     ensures memory { OnErr result ((q : C) → swept (is_among C.cmp set.now.primary q) (swept (is_among C.cmp set.now.secondary q) (lookup (is_at (C.cmp q)) records.new.entries))
         ≡ swept (is_among C.cmp set.now.primary q) (swept (is_among C.cmp set.now.secondary q) (lookup (is_at (C.cmp q)) records.old.entries))) }
+    ensures rules { HasRules records.old.private records.old.dns records.new }
 {
     make_blanks(records, set.primary.as_slice())?;
     make_blanks(records, set.secondary.as_slice())
@@ -92,8 +99,9 @@ fn make_both<C: PublicKey>(records: &mut Records<C>, set: &TrackedSet<C>) -> Res
 
 // Takes the peers of a set that is kept no longer out of it, if there is one.
 pub(super) fn retire_set<C: PublicKey>(records: &mut Records<C>, fallen: Option<TrackedSet<C>>)
-    ensures { (q : C) → lookup (is_at (C.cmp q)) records.new.entries
+    ensures each { (q : C) → lookup (is_at (C.cmp q)) records.new.entries
         ≡ retired (lookup (is_at (C.cmp q)) records.old.entries) (is_primary_of C.cmp fallen q) (is_secondary_of C.cmp fallen q) }
+    ensures rules { HasRules records.old.private records.old.dns records.new }
 {
     if let Some(set) = fallen {
         retire(records, set.primary.as_slice(), true);

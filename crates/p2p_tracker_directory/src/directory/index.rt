@@ -1,36 +1,39 @@
 //! `Index`, from where peers dial and when each comes up for a dial.
-ghost use Rattle.std.specs.Prelude.{◌≡◌, ℕ, ◌+◌, true, []};
-ghost use Rattle.std.specs.List.Sorted.{IsStrictlySortedBy};
-ghost use Rattle.std.specs.Map.{lookup, keys_of};
+ghost use Rattle.std.specs.Prelude.{◌≡◌, OnOk, OnErr, [], None};
+ghost use Rattle.std.specs.Map.{lookup};
 ghost use Rattle.std.specs.BTreeMap.{is_at};
-ghost use Rattle.p2p_address.specs.declared.ip.IpAddr.{IpAddr};
-ghost use Rattle.p2p_tracker_calls.specs.Heard.{ip_cmp};
-ghost use Rattle.p2p_tracker_directory.specs.Tracked.{one_if};
-ghost use Rattle.p2p_tracker_directory.specs.Indexed.{source_of, source_in, due_of, due_in, is_from, Tallies, Indexes, IndexesBut};
+ghost use Rattle.p2p_tracker_directory.specs.Indexed.{source_of, source_in, due_of, due_in, Enters, Stays, Follows};
 
 use crate::Record;
 use crate::directory::Config;
-use crate::directory::conditions::in_order;
-use crate::directory::tallies::{dequeue, enqueue, lower, raise};
+use crate::places::Places;
 use p2p_address::IpAddr;
 use p2p_base::PublicKey;
-use std::alloc::Global;
-use std::collections::{BTreeMap, BTreeSet};
+use std::alloc::{AllocError, Global};
+use std::collections::BTreeMap;
 
-// How many other peers in sets dial from each address, and the primary ones that may be dialed at theirs, each at the moment from
-// which it is listed. Where memory runs out for it, it is kept no longer.
+// Each key that has a record: at the address from which it dials, if it is another peer's in a set, and at the moment from which it is
+// listed, if it is primary in one and may be dialed at its address. A key's node is made before its record, so that it moves from one
+// place to another without memory.
 #[derive(Drop)]
 pub(super) struct Index<C: PublicKey> {
-    pub(super) is_kept: bool,
     // Whether addresses that aren't global may be dialed, and names.
     pub(super) private: bool,
     pub(super) dns: bool,
-    pub(super) counts: BTreeMap<IpAddr, usize>,
-    pub(super) queue: BTreeSet<(u128, C)>,
+    pub(super) sources: Places<IpAddr, C>,
+    pub(super) queue: Places<u128, C>,
+    alloc: Global,
+}
+
+// Where a key stands in an index.
+#[derive(Clone, Copy)]
+pub(super) struct Spot {
+    pub(super) source: Option<IpAddr>,
+    pub(super) due: Option<u128>,
 }
 
 // The address that another peer in a set dials from.
-pub(super) fn source_of(known: &Record) -> Option<IpAddr>
+fn source_of(known: &Record) -> Option<IpAddr>
     ensures { result ≡ source_of known.now }
 {
     if known.eligible() {
@@ -67,85 +70,75 @@ fn due_in<C: Ord>(records: &BTreeMap<C, Record>, peer: &C, private: bool, dns: b
     }
 }
 
-// Counts one more peer that dials from the address, if there is one. False where memory runs out.
-pub(super) fn count_in(counts: &mut BTreeMap<IpAddr, usize>, source: Option<IpAddr>) -> bool
-    ensures { result ≡ true → (n m : IpAddr → ℕ) → Tallies ip_cmp counts.old.entries n → ((ip : IpAddr) → m ip ≡ n ip + one_if (is_from ip source))
-        → Tallies ip_cmp counts.new.entries m }
-{
-    match source {
-        Some(ip) => raise(counts, ip),
-        None => true,
-    }
-}
-
-// Counts one less.
-fn count_out(counts: &mut BTreeMap<IpAddr, usize>, source: Option<IpAddr>)
-    ensures { (n m : IpAddr → ℕ) → Tallies ip_cmp counts.old.entries n → ((ip : IpAddr) → n ip ≡ m ip + one_if (is_from ip source))
-        → Tallies ip_cmp counts.new.entries m }
-{
-    if let Some(ip) = source {
-        lower(counts, &ip);
+impl Spot {
+    // Where a key stands that has no record yet.
+    pub(super) fn blank() -> Spot
+        ensures source { result.source ≡ None }
+        ensures due { result.due ≡ None }
+    {
+        Spot {
+            source: None,
+            due: None,
+        }
     }
 }
 
 impl<C: PublicKey> Index<C> {
     // The index of no peers.
     pub(super) fn new(alloc: Global, cfg: &Config) -> Index<C>
-        ensures counts { result.counts.entries ≡ [] }
-        ensures queue { result.queue.keys ≡ [] }
+        ensures sources { result.sources ≡ [] }
+        ensures queue { result.queue ≡ [] }
+        ensures private { result.private ≡ cfg.now.allow_private_ips }
+        ensures dns { result.dns ≡ cfg.now.allow_dns }
     {
         Index {
-            is_kept: true,
             private: cfg.allow_private_ips,
             dns: cfg.allow_dns,
-            counts: BTreeMap::new(alloc),
-            queue: BTreeSet::new(alloc),
+            sources: Places::new(),
+            queue: Places::new(),
+            alloc,
         }
     }
 
-    // Whether it says who may be dialed by these rules.
-    pub(super) fn serves(&self, cfg: &Config) -> bool
-        ensures kept { result ≡ true → self.now.is_kept ≡ true }
-        ensures private { result ≡ true → self.now.private ≡ cfg.now.allow_private_ips }
-        ensures dns { result ≡ true → self.now.dns ≡ cfg.now.allow_dns }
+    // Where a peer stands, as its record is now.
+    pub(super) fn spot(&self, records: &BTreeMap<C, Record>, peer: &C) -> Spot
+        ensures source { result.source ≡ source_in (lookup (is_at (C.cmp peer.now)) records.now.entries) }
+        ensures due { result.due ≡ due_in (lookup (is_at (C.cmp peer.now)) records.now.entries) self.now.private self.now.dns }
     {
-        self.is_kept && self.private == cfg.allow_private_ips && self.dns == cfg.allow_dns
-    }
-
-    // Leaves a peer out, as its record stands, before that changes.
-    pub(super) fn unplace(&mut self, records: &BTreeMap<C, Record>, peer: &C)
-        ensures ordered { IsStrictlySortedBy C.cmp (keys_of records.now.entries) }
-        ensures index { Indexes C.cmp self.old records.now.entries → IndexesBut C.cmp peer.now self.new records.now.entries }
-    {
-        in_order(records);
-        let source = source_in(records, peer);
-        let due = due_in(records, peer, self.private, self.dns);
-        count_out(&mut self.counts, source);
-        dequeue(&mut self.queue, due, peer);
-    }
-
-    // Takes a peer in that was left out, as its record stands now. False where memory runs out.
-    fn take_in(&mut self, records: &BTreeMap<C, Record>, peer: &C) -> bool
-        ensures { result ≡ true → IndexesBut C.cmp peer.now self.old records.now.entries → Indexes C.cmp self.new records.now.entries }
-    {
-        in_order(records);
-        let source = source_in(records, peer);
-        let due = due_in(records, peer, self.private, self.dns);
-        let is_counted = count_in(&mut self.counts, source);
-        let is_queued = enqueue(&mut self.queue, due, peer);
-        is_counted && is_queued
-    }
-
-    // The same, but that the index is kept no longer where memory runs out.
-    pub(super) fn place(&mut self, records: &BTreeMap<C, Record>, peer: &C)
-        ensures ordered { IsStrictlySortedBy C.cmp (keys_of records.now.entries) }
-        ensures index { IndexesBut C.cmp peer.now self.old records.now.entries → Indexes C.cmp self.new records.now.entries }
-    {
-        in_order(records);
-        if self.is_kept && !self.take_in(records, peer) {
-            self.is_kept = false;
-            self.counts.clear();
-            self.queue.clear();
+        Spot {
+            source: source_in(records, peer),
+            due: due_in(records, peer, self.private, self.dns),
         }
+    }
+
+    // Takes a peer in that is about to have a record.
+    pub(super) fn enter(&mut self, peer: &C) -> Result<(), AllocError>
+        ensures entered { OnOk result (Enters C.cmp self.old self.new peer.now) }
+        ensures memory { OnErr result (Stays C.cmp self.old self.new peer.now) }
+        ensures private { self.new.private ≡ self.old.private }
+        ensures dns { self.new.dns ≡ self.old.dns }
+    {
+        self.sources.enter(self.alloc, *peer)?;
+        if self.queue.enter(self.alloc, *peer).is_err() {
+            self.sources.leave(*peer, None);
+            return Err(AllocError);
+        }
+        Ok(())
+    }
+
+    // Follows a change to a peer's record, or the loss of it, from where the peer stood before. It takes no memory.
+    pub(super) fn follow(&mut self, records: &BTreeMap<C, Record>, peer: &C, before: Spot)
+        ensures index { Follows C.cmp self.old self.new records.now.entries peer.now before.source before.due }
+        ensures private { self.new.private ≡ self.old.private }
+        ensures dns { self.new.dns ≡ self.old.dns }
+    {
+        if !records.contains_key(peer) {
+            self.sources.leave(*peer, before.source);
+            self.queue.leave(*peer, before.due);
+            return;
+        }
+        let after = self.spot(records, peer);
+        self.sources.shift(*peer, before.source, after.source);
+        self.queue.shift(*peer, before.due, after.due);
     }
 }

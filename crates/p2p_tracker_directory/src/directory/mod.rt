@@ -97,6 +97,7 @@ impl<C: PublicKey> Model for Directory<C> {
     ghost use Rattle.std.specs.List.Sorted.{IsStrictlySortedBy};
     ghost use Rattle.std.specs.Map.{keys_of};
     ghost use Rattle.p2p_tracker_calls.specs.Rules.{Rules};
+    ghost use Rattle.p2p_tracker_directory.specs.Indexed.{HasRules};
     ghost use Rattle.p2p_tracker_directory.specs.Stands.{Kept};
 
     ghost Value = { Kept C };
@@ -117,7 +118,7 @@ impl<C: PublicKey> Model for Directory<C> {
       blocks = d.blocks;
     } };
 
-    ghost invariant = { λ d. IsStrictlySortedBy C.cmp (keys_of d.blocks) };
+    ghost invariant = { λ d. IsStrictlySortedBy C.cmp (keys_of d.blocks) × HasRules d.cfg.allow_private_ips d.cfg.allow_dns d.records };
 }
 
 impl<C: PublicKey> Directory<C> {
@@ -259,7 +260,7 @@ impl<C: PublicKey> Directory<C> {
             → r ≡ record { peers = dialable_keys C.cmp self.now.rules calls now; next_query_at = query_again_at C.cmp self.now.rules calls now }) }
     {
         let peers = dialable_peers(self.alloc, &self.records, &self.blocks, &self.cfg, now)?;
-        let next_query_at = next_query(&self.records, &self.blocks, &self.cfg, now);
+        let next_query_at = next_query(&self.records, &self.blocks, now);
         Ok(Dialable {
             peers: List::new(peers),
             next_query_at,

@@ -6,12 +6,13 @@ ghost use Rattle.std.specs.Map.{lookup, keys_of};
 ghost use Rattle.std.specs.BTreeMap.{is_at, insert_entry};
 ghost use Rattle.p2p_tracker_directory.specs.Recorded.{fresh, may_dial_in, may_listen_in, reserved_by, connected, updated, is_reserved_in, is_held_or_unknown, is_stale_in, differs_in, without_need, written};
 ghost use Rattle.p2p_tracker_directory.specs.Tracked.{blanked, needed, joined, leaves};
+ghost use Rattle.p2p_tracker_directory.specs.Indexed.{HasRules};
 ghost use Rattle.p2p_tracker_directory.specs.declared.record.Address.TheVariants as place;
 ghost use Rattle.p2p_tracker_directory.specs.declared.record.ReserveResult.TheVariants as reserve;
 
 use crate::Record;
 use crate::directory::conditions::in_order;
-use crate::directory::index::Index;
+use crate::directory::index::{Index, Spot};
 use crate::directory::{Config, changes, entries};
 use p2p_address::{Address, IpAddr};
 use p2p_base::PublicKey;
@@ -19,7 +20,7 @@ use std::alloc::{AllocError, Global};
 use std::collections::BTreeMap;
 use std::marker::Model;
 
-// A record for each key of which the directory knows. While the index is kept, it follows each change to a record.
+// A record for each key of which the directory knows. The index follows each change to a record.
 #[derive(Drop)]
 pub(super) struct Records<C: PublicKey> {
     pub(super) map: BTreeMap<C, Record>,
@@ -31,7 +32,7 @@ impl<C: PublicKey> Model for Records<C> {
 
     ghost Value = { Roster C };
 
-    ghost view = { λ r. record { entries = r.map.entries } };
+    ghost view = { λ r. record { entries = r.map.entries; private = r.index.private; dns = r.index.dns } };
 
     ghost invariant = { λ r. Indexes C.cmp r.index r.map.entries };
 }
@@ -39,14 +40,14 @@ impl<C: PublicKey> Model for Records<C> {
 impl<C: PublicKey> Records<C> {
     // The record of this node itself alone.
     pub(super) fn of_local(alloc: Global, local: C, cfg: &Config) -> Result<Records<C>, AllocError>
-        ensures { IfOk result (λ r. r.entries ≡ insert_entry C.cmp [] local (fresh place.Myself)) }
+        ensures records { IfOk result (λ r. r.entries ≡ insert_entry C.cmp [] local (fresh place.Myself)) }
+        ensures rules { IfOk result (λ r. HasRules cfg.now.allow_private_ips cfg.now.allow_dns r) }
     {
+        let mut index = Index::new(alloc, cfg);
+        index.enter(&local)?;
         let mut map = BTreeMap::new(alloc);
         map.insert(local, Record::myself())?;
-        Ok(Records {
-            map,
-            index: Index::new(alloc, cfg),
-        })
+        Ok(Records { map, index })
     }
 
     // The record of a peer.
@@ -68,10 +69,11 @@ impl<C: PublicKey> Records<C> {
         ensures answer { result ≡ may_dial_in (lookup (is_at (C.cmp peer.now)) self.old.entries) now cfg.now.allow_private_ips cfg.now.allow_dns }
         ensures after { self.new.entries ≡ written C.cmp (lookup (is_at (C.cmp peer.now)) self.old.entries) self.old.entries peer.now
             (λ r. cond result (reserved_by reserve.Reserved r now cfg.now.peer_connection_cooldown jitter) r) }
+        ensures rules { HasRules self.old.private self.old.dns self.new }
     {
-        self.index.unplace(&self.map, peer);
+        let before = self.index.spot(&self.map, peer);
         let granted = changes::grant_dial(&mut self.map, cfg, peer, now, jitter);
-        self.index.place(&self.map, peer);
+        self.index.follow(&self.map, peer, before);
         granted
     }
 
@@ -87,10 +89,11 @@ impl<C: PublicKey> Records<C> {
         ensures answer { result ≡ may_listen_in (lookup (is_at (C.cmp peer.now)) self.old.entries) source now cfg.now.bypass_ip_check }
         ensures after { self.new.entries ≡ written C.cmp (lookup (is_at (C.cmp peer.now)) self.old.entries) self.old.entries peer.now
             (λ r. cond result (reserved_by reserve.Reserved r now cfg.now.peer_connection_cooldown jitter) r) }
+        ensures rules { HasRules self.old.private self.old.dns self.new }
     {
-        self.index.unplace(&self.map, peer);
+        let before = self.index.spot(&self.map, peer);
         let granted = changes::grant_listen(&mut self.map, cfg, peer, source, now, jitter);
-        self.index.place(&self.map, peer);
+        self.index.follow(&self.map, peer, before);
         granted
     }
 
@@ -99,72 +102,81 @@ impl<C: PublicKey> Records<C> {
         requires { is_reserved_in (lookup (is_at (C.cmp peer.now)) self.old.entries) ≡ true }
         ensures answer { result ≡ not (is_stale_in (lookup (is_at (C.cmp peer.now)) self.old.entries)) }
         ensures after { self.new.entries ≡ written C.cmp (lookup (is_at (C.cmp peer.now)) self.old.entries) self.old.entries peer.now connected }
+        ensures rules { HasRules self.old.private self.old.dns self.new }
     {
-        in_order(&self.map);
-        let begun = changes::begin(&mut self.map, peer);
-        in_order(&self.map);
-        begun
+        changes::begin(&mut self.map, peer)
     }
 
     // Gives a peer another address. True exactly where that changed it.
     pub(super) fn readdress(&mut self, peer: &C, address: Address) -> bool
         ensures answer { result ≡ differs_in (lookup (is_at (C.cmp peer.now)) self.old.entries) address }
         ensures after { self.new.entries ≡ written C.cmp (lookup (is_at (C.cmp peer.now)) self.old.entries) self.old.entries peer.now (λ r. updated r address) }
+        ensures rules { HasRules self.old.private self.old.dns self.new }
     {
-        self.index.unplace(&self.map, peer);
+        let before = self.index.spot(&self.map, peer);
         let changed = changes::readdress(&mut self.map, peer, address);
-        self.index.place(&self.map, peer);
+        self.index.follow(&self.map, peer, before);
         changed
     }
 
     // Holds a peer no longer, and forgets its record where nothing needs it then: it is in no set, and so the index hasn't got it.
     pub(super) fn end_hold(&mut self, peer: &C)
         requires { is_held_or_unknown (lookup (is_at (C.cmp peer.now)) self.old.entries) ≡ true }
-        ensures { (q : C) → lookup (is_at (C.cmp q)) self.new.entries ≡ cond (is_at (C.cmp peer.now) q)
+        ensures each { (q : C) → lookup (is_at (C.cmp q)) self.new.entries ≡ cond (is_at (C.cmp peer.now) q)
             (without_need (lookup (is_at (C.cmp q)) self.old.entries)) (lookup (is_at (C.cmp q)) self.old.entries) }
+        ensures rules { HasRules self.old.private self.old.dns self.new }
     {
-        in_order(&self.map);
+        let before = self.index.spot(&self.map, peer);
         changes::end_hold(&mut self.map, peer);
-        in_order(&self.map);
+        self.index.follow(&self.map, peer, before);
     }
 
     // Makes a record for a peer that has none. The set that it is made for gives it an address.
     pub(super) fn make_blank(&mut self, peer: &C) -> Result<(), AllocError>
         ensures made { OnOk result ((q : C) → lookup (is_at (C.cmp q)) self.new.entries ≡ blanked (is_at (C.cmp peer.now) q) (lookup (is_at (C.cmp q)) self.old.entries)) }
         ensures memory { OnErr result (self.new.entries ≡ self.old.entries) }
+        ensures rules { HasRules self.old.private self.old.dns self.new }
     {
-        in_order(&self.map);
-        entries::make_blank(&mut self.map, peer)?;
-        in_order(&self.map);
+        if self.map.contains_key(peer) {
+            return Ok(());
+        }
+        self.index.enter(peer)?;
+        if entries::make_blank(&mut self.map, peer).is_err() {
+            self.index.follow(&self.map, peer, Spot::blank());
+            return Err(AllocError);
+        }
         Ok(())
     }
 
     // Forgets a peer that nothing needs.
     pub(super) fn forget(&mut self, peer: &C)
-        ensures { (q : C) → lookup (is_at (C.cmp q)) self.new.entries ≡ cond (is_at (C.cmp peer.now) q)
+        ensures each { (q : C) → lookup (is_at (C.cmp q)) self.new.entries ≡ cond (is_at (C.cmp peer.now) q)
             (needed (lookup (is_at (C.cmp q)) self.old.entries)) (lookup (is_at (C.cmp q)) self.old.entries) }
+        ensures rules { HasRules self.old.private self.old.dns self.new }
     {
-        in_order(&self.map);
+        let before = self.index.spot(&self.map, peer);
         entries::forget(&mut self.map, peer);
-        in_order(&self.map);
+        self.index.follow(&self.map, peer, before);
     }
 
     // Puts a peer that has a record into one more set, which gives it this address.
     pub(super) fn enter(&mut self, peer: &C, address: Address, is_primary: bool)
-        ensures { self.new.entries ≡ written C.cmp (lookup (is_at (C.cmp peer.now)) self.old.entries) self.old.entries peer.now
+        ensures after { self.new.entries ≡ written C.cmp (lookup (is_at (C.cmp peer.now)) self.old.entries) self.old.entries peer.now
             (λ r. joined is_primary (updated r address)) }
+        ensures rules { HasRules self.old.private self.old.dns self.new }
     {
-        self.index.unplace(&self.map, peer);
+        let before = self.index.spot(&self.map, peer);
         entries::enter(&mut self.map, peer, address, is_primary);
-        self.index.place(&self.map, peer);
+        self.index.follow(&self.map, peer, before);
     }
 
     // Takes a peer out of a set, and forgets it where nothing needs it then.
     pub(super) fn leave(&mut self, peer: &C, is_primary: bool)
-        ensures { (q : C) → lookup (is_at (C.cmp q)) self.new.entries ≡ leaves is_primary (is_at (C.cmp peer.now) q) (lookup (is_at (C.cmp q)) self.old.entries) }
+        ensures each { (q : C) → lookup (is_at (C.cmp q)) self.new.entries ≡ leaves is_primary (is_at (C.cmp peer.now) q) (lookup (is_at (C.cmp q)) self.old.entries) }
+        ensures rules { HasRules self.old.private self.old.dns self.new }
     {
-        self.index.unplace(&self.map, peer);
+        let before = self.index.spot(&self.map, peer);
         entries::leave(&mut self.map, peer, is_primary);
-        self.index.place(&self.map, peer);
+        self.index.follow(&self.map, peer, before);
     }
 }

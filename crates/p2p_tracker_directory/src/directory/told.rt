@@ -35,6 +35,6 @@ impl<C: PublicKey> Directory<C> {
             → result ≡ query_again_at C.cmp self.now.rules calls now }
     {
         self.records.stand_in_order();
-        next_query(&self.records, &self.blocks, &self.cfg, now)
+        next_query(&self.records, &self.blocks, now)
     }
 }

@@ -37,4 +37,4 @@ returns-clause-stands g c = λ calls primary secondary s set_is first_is second_
     stands-accepted g.met.C.Ord.total kept c.args.index primary secondary next c.take_oldest-oldest.new.sets.items c.take_oldest-oldest.result fell room
     c.args.newcomers.set c.args.newcomers.primary.items c.args.newcomers.secondary.items set_is first_is second_is
     c.make_room.new.records.entries c.take_up-set.new.records.entries c.retire_set.new.records.entries
-    c.in_ok-make_room.ensures.made c.take_up-set.ensures.records c.retire_set.ensures
+    c.in_ok-make_room.ensures.made c.take_up-set.ensures.records c.retire_set.ensures.each

@@ -31,6 +31,8 @@ returns-clause-stands g c = λ calls s.
     (sorted-inserted g.met.C.Ord.total c.self.inside.blocks c.args.peer.now c.block_end-end.result (subst (λ k. StandsFor g.C.Ord.cmp k calls) (sym c.self.view_is) s).ordered))
 
 pub invariant_of-self-2 : goal.invariant_of-self-2
-invariant_of-self-2 g c =
-    subst (λ bs. IsStrictlySortedBy g.C.Ord.cmp (keys_of bs)) (sym c.in_ok-put.ensures.after)
-    (sorted-inserted g.met.C.Ord.total c.self.inside.blocks c.args.peer.now c.block_end-end.result c.self.invariant)
+invariant_of-self-2 g c = (
+  subst (λ bs. IsStrictlySortedBy g.C.Ord.cmp (keys_of bs)) (sym c.in_ok-put.ensures.after)
+      (sorted-inserted g.met.C.Ord.total c.self.inside.blocks c.args.peer.now c.block_end-end.result c.self.invariant.0),
+  c.self.invariant.1,
+)

@@ -9,6 +9,6 @@ use Rattle.p2p_tracker_directory.proofs.directory.Directory.init.Goals as goal
 
 pub returns-clause-stands : goal.returns-clause-stands
 returns-clause-stands g c = stands-init g.C.Ord.cmp _
-    (λ q. ap (lookup (is_at (g.C.Ord.cmp q))) c.in_ok-records.ensures
+    (λ q. ap (lookup (is_at (g.C.Ord.cmp q))) c.in_ok-records.ensures.records
     ∙ ap (λ b. cond b (Some (fresh address.Myself)) None) ((eq_by_cmp_equiv g.met.C.Ord.total).symm q c.args.local))
     c.new-2.ensures c.new.ensures.items refl

@@ -12,4 +12,4 @@ returns-clause-stands g c = λ calls s.
     stands-release g.met.C.Ord.total (subst (λ k. StandsFor g.C.Ord.cmp k calls) (sym c.self.view_is) s) (peer_of c.args.metadata.now) c.end_hold.new.self.entries
     (λ q. subst (λ p. lookup (is_at (g.C.Ord.cmp q)) c.end_hold.new.self.entries ≡ cond (is_at (g.C.Ord.cmp p) q)
     (without_need (lookup (is_at (g.C.Ord.cmp q)) c.self.inside.records.entries)) (lookup (is_at (g.C.Ord.cmp q)) c.self.inside.records.entries))
-    c.public_key.ensures (c.end_hold.ensures q))
+    c.public_key.ensures (c.end_hold.ensures.each q))

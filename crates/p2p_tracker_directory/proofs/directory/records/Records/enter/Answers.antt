@@ -1,10 +1,9 @@
 use Rattle.p2p_tracker_directory.specs.Recorded.{updated}
 use Rattle.p2p_tracker_directory.specs.Tracked.{joined}
-use Rattle.p2p_tracker_directory.proofs.Indexing.{but-written}
+use Rattle.p2p_tracker_directory.proofs.Indexing.{follow-written}
 use Rattle.p2p_tracker_directory.proofs.directory.records.Records.enter.Goals as goal
 
 pub invariant_of-self : goal.invariant_of-self
 invariant_of-self g c =
-    c.place.ensures.index
-    (but-written g.met.C.Ord.total c.self.inside.map.entries c.enter.new.records.entries c.unplace.ensures.ordered c.place.ensures.ordered c.unplace.new.self c.args.peer.now
-    (λ r. joined c.args.is_primary (updated r c.args.address)) c.enter.ensures (c.unplace.ensures.index c.self.invariant))
+    follow-written g.met.C.Ord.total c.args.peer.now c.self.inside.index c.follow.new.self c.spot-before.result.source c.spot-before.result.due c.self.inside.map.entries c.enter.new.records.entries
+    (λ r. joined c.args.is_primary (updated r c.args.address)) c.enter.ensures c.follow.ensures.index c.spot-before.ensures.source c.spot-before.ensures.due c.self.invariant

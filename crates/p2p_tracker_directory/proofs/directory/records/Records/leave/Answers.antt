@@ -1,8 +1,10 @@
-use Rattle.p2p_tracker_directory.proofs.Indexing.{but-left}
+use Rattle.std.proofs.Common.{refl}
+use Rattle.std.specs.Option.{option_map}
+use Rattle.p2p_tracker_directory.specs.Tracked.{needed, parted}
+use Rattle.p2p_tracker_directory.proofs.Indexing.{follow-changed}
 use Rattle.p2p_tracker_directory.proofs.directory.records.Records.leave.Goals as goal
 
 pub invariant_of-self : goal.invariant_of-self
 invariant_of-self g c =
-    c.place.ensures.index
-    (but-left g.met.C.Ord.total c.self.inside.map.entries c.leave.new.records.entries c.unplace.ensures.ordered c.place.ensures.ordered c.unplace.new.self c.args.peer.now
-    c.args.is_primary c.leave.ensures (c.unplace.ensures.index c.self.invariant))
+    follow-changed g.met.C.Ord.total c.args.peer.now c.self.inside.index c.follow.new.self c.spot-before.result.source c.spot-before.result.due c.self.inside.map.entries c.leave.new.records.entries
+    (λ r. needed (option_map (parted c.args.is_primary) r)) refl c.leave.ensures c.follow.ensures.index c.spot-before.ensures.source c.spot-before.ensures.due c.self.invariant
