@@ -1,0 +1,3 @@
+mod Idle
+mod Resting
+mod Taking
