@@ -7,7 +7,7 @@ use p2p_flow::{Polled, Recipients};
 use p2p_flow_connection::Inbounds;
 use p2p_flow_senders::channels::{Error, Receiver};
 use p2p_flow_senders::{SendError, Sender};
-use p2p_mux_codec::{
+use p2p_mux::codec::{
     BackgroundReceiver, Stepped, WrappedBackgroundReceiver, WrappedReceiver, WrappedSender, wrap,
 };
 use p2p_tracker_mailbox::{Mailbox, Message, Oracle};

@@ -1,8 +1,8 @@
 //! The tests of what carries messages between a node and its connections, through public names alone.
 //!
 //! Of `p2p_flow_connection` are `inboxes` and `outgoing`; of `p2p_flow_senders` are `senders` and `registered`; of `p2p_router` is
-//! `routing`; of `p2p_peer` is `connections`; of `p2p_mux` are `muxers` and `subsenders`; of `p2p_mux_codec` is `codecs`, over the value
-//! of `number`; and of providers and blockers is `asking`. `texts` has how errors and labels print, and `node` what several take.
+//! `routing`; of `p2p_peer` is `connections`; of `p2p_mux` are `muxers` and `subsenders`, and `codecs`, over the value of `number`; and
+//! of providers and blockers is `asking`. `texts` has how errors and labels print, and `node` what several take.
 //!
 //! A test goes once through the calls of one type, each with ample memory, and compares what they answer: a contract says of each answer
 //! what it is, and not that it comes.

@@ -1,6 +1,6 @@
 //! `Number`, a value with a codec.
 use bytes::Bytes;
-use p2p_mux_codec::Codec;
+use p2p_mux::codec::Codec;
 use p2p_wire::CodecError;
 use std::alloc::{AllocError, Global};
 

@@ -4,7 +4,7 @@ use p2p_flow_connection::Error as Ended;
 use p2p_flow_senders::channels::Error::NetworkClosed;
 use p2p_flow_senders::{RegisterError, SendError};
 use p2p_mux::Error as Muxed;
-use p2p_mux_codec::labels::{Message, MessageType, Peer};
+use p2p_mux::labels::{Message, MessageType, Peer};
 use p2p_peer::peer::Error;
 use p2p_wire::CodecError;
 use std::alloc::{AllocError, Global};

@@ -1,4 +1,7 @@
+pub mod Background
+pub mod BackgroundSteps
 pub mod Built
+pub mod Decoding
 pub mod Muxed
 pub mod MuxerSteps
 pub mod MuxerTurns

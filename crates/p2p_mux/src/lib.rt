@@ -2,13 +2,17 @@
 //! and the senders and receivers of subchannels.
 //!
 //! A message of a subchannel is its prefix, the spelling of its number in at most 10 bytes, and then the payload.
+//!
+//! Beside them stand `codec`, senders and receivers of values, and `labels`, by which what a node counts is told apart.
 #![tactic(auto)]
 
 pub mod backup;
 pub mod builder;
+pub mod codec;
 pub mod error;
 pub mod global;
 pub mod handle;
+pub mod labels;
 pub mod muxer;
 pub mod queues;
 mod request;

@@ -1,8 +1,8 @@
 //! `WrappedReceiver`, which receives values, and `wrap`.
 ghost use Rattle.std.specs.Prelude.{◌≡◌};
-ghost use Rattle.p2p_mux_codec.specs.Decoding.{IsReceived};
+ghost use Rattle.p2p_mux.specs.Decoding.{IsReceived};
 
-use crate::{Codec, WrappedSender};
+use crate::codec::{Codec, WrappedSender};
 use p2p_flow::Polled;
 use p2p_flow_senders::{LimitedSender, Receiver};
 use p2p_wire::CodecError;
@@ -24,7 +24,7 @@ pub struct WrappedReceiver<R, V: Codec> {
 }
 
 impl<R, V: Codec> Model for WrappedReceiver<R, V> {
-    ghost use Rattle.p2p_mux_codec.specs.Decoding.{Reading};
+    ghost use Rattle.p2p_mux.specs.Decoding.{Reading};
 
     ghost Value = { Reading R V.Cfg };
 

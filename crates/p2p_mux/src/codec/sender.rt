@@ -4,7 +4,7 @@ ghost use Rattle.p2p_flow_senders.specs.SenderAt.{sender_at};
 ghost use Rattle.p2p_flow_senders.specs.Senders.{IsCheckOf, IsSendCheckedOf, IsSendOf};
 ghost use Rattle.p2p_flow_senders.specs.Sending.{OnMemory, sent_to};
 
-use crate::Codec;
+use crate::codec::Codec;
 use p2p_base::Unreliable;
 use p2p_flow::Recipients;
 use p2p_flow_senders::{CheckedSender, LimitedSender, SendError, Sender};

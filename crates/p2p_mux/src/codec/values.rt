@@ -2,7 +2,7 @@
 ghost use Rattle.std.specs.Prelude.{◌≡◌, ◌≢◌, List as Seq, ℕ, Result as Meaning, Err, IfOk};
 ghost use Rattle.p2p_wire.specs.declared.error.CodecError.{CodecError as Fault};
 ghost use Rattle.p2p_wire.specs.declared.error.CodecError.TheVariants as fault;
-ghost use Rattle.p2p_mux_codec.specs.Decoding.{IsDecoded};
+ghost use Rattle.p2p_mux.specs.Decoding.{IsDecoded};
 
 use bytes::Bytes;
 use p2p_wire::CodecError;

@@ -1,9 +1,9 @@
 //! `WrappedBackgroundReceiver`, which decodes messages and forwards them.
 ghost use Rattle.std.specs.Prelude.{◌≡◌, true, false, IfOk, IfErr, OnOk, OnErr, IsErr};
-ghost use Rattle.p2p_mux_codec.specs.Background.{nothing_forwarded, decoded_as};
-ghost use Rattle.p2p_mux_codec.specs.Stepping.{found, lent_of, IsStepOf, IsDecodedFrom};
+ghost use Rattle.p2p_mux.specs.Background.{nothing_forwarded, decoded_as};
+ghost use Rattle.p2p_mux.specs.BackgroundSteps.{found, lent_of, IsStepOf, IsDecodedFrom};
 
-use crate::{BackgroundReceiver, Codec, Stepped};
+use crate::codec::{BackgroundReceiver, Codec, Stepped};
 use p2p_base::NoRoom;
 use p2p_flow::{Blocker, Message, Polled};
 use p2p_flow_senders::{Receiver, block};
@@ -24,7 +24,7 @@ pub struct WrappedBackgroundReceiver<B, R, V: Codec> {
 }
 
 impl<B, R, V: Codec> Model for WrappedBackgroundReceiver<B, R, V> {
-    ghost use Rattle.p2p_mux_codec.specs.Background.{Decoding};
+    ghost use Rattle.p2p_mux.specs.Background.{Decoding};
 
     ghost Value = { Decoding B R V.Cfg };
 

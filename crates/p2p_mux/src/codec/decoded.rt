@@ -3,9 +3,9 @@ ghost use Rattle.std.specs.Prelude.{◌≡◌, ◌≤◌, IfOk, OnOk, OnErr};
 ghost use Rattle.p2p_base.specs.Queue.{oldest, enqueue_answer};
 ghost use Rattle.p2p_base.specs.declared.policy.Keep.TheVariants as keep;
 ghost use Rattle.p2p_flow.specs.Subscribed.{next_item};
-ghost use Rattle.p2p_mux_codec.specs.Background.{nothing_forwarded, with_forwarded, without_forwarded, ended_forwarded, forwarded_as};
+ghost use Rattle.p2p_mux.specs.Background.{nothing_forwarded, with_forwarded, without_forwarded, ended_forwarded, forwarded_as};
 
-use crate::Stepped;
+use crate::codec::Stepped;
 use p2p_base::{Mailbox, Sent};
 use p2p_flow::{Ended, Polled, Refusing, refusing};
 use std::alloc::{AllocError, Global};
@@ -23,7 +23,7 @@ pub struct BackgroundReceiver<P, V> {
 }
 
 impl<P, V> Model for BackgroundReceiver<P, V> {
-    ghost use Rattle.p2p_mux_codec.specs.Background.{Forwarded};
+    ghost use Rattle.p2p_mux.specs.Background.{Forwarded};
 
     ghost Value = { Forwarded P V };
 

@@ -4,8 +4,8 @@ use Rattle.p2p_base.specs.declared.outcome.Feedback.{Feedback}
 use Rattle.p2p_flow.specs.declared.plain.Polled.{Polled}
 use Rattle.p2p_flow.specs.declared.plain.Polled.TheVariants as polled
 use Rattle.p2p_wire.specs.declared.error.CodecError.{CodecError}
-use Rattle.p2p_mux_codec.specs.Background.{Forwarded, Decoding, Decoded, Turn, background_turn}
-use Rattle.p2p_mux_codec.specs.declared.stepped.Stepped.{Stepped}
+use Rattle.p2p_mux.specs.Background.{Forwarded, Decoding, Decoded, Turn, background_turn}
+use Rattle.p2p_mux.specs.declared.codec.stepped.Stepped.{Stepped}
 
 -- what is lent to a step: the queue, the receiver's way and the blocker's way
 pub record Lent (P V W U : Type 0) : Type 0 where

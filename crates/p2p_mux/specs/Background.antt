@@ -9,8 +9,8 @@ use Rattle.p2p_base.specs.declared.policy.Keep.TheVariants.{Refuse}
 use Rattle.p2p_flow.specs.declared.plain.Polled.{Polled}
 use Rattle.p2p_flow.specs.declared.plain.Polled.TheVariants as polled
 use Rattle.p2p_wire.specs.declared.error.CodecError.{CodecError}
-use Rattle.p2p_mux_codec.specs.declared.stepped.Stepped.{Stepped}
-use Rattle.p2p_mux_codec.specs.declared.stepped.Stepped.TheVariants as stepped
+use Rattle.p2p_mux.specs.declared.codec.stepped.Stepped.{Stepped}
+use Rattle.p2p_mux.specs.declared.codec.stepped.Stepped.TheVariants as stepped
 
 -- the decoded messages that wait, with their senders, and whether no more will come
 pub record Forwarded (P V : Type 0) : Type 0 where
