@@ -1,5 +1,5 @@
 //! The gate of the program.
-use p2p_threads_shared::Gate;
+use p2p_threads::Gate;
 
 /// A gate that does nothing.
 pub struct NoGate;

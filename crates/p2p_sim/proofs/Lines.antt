@@ -2,7 +2,7 @@
 use Rattle.std.proofs.Common.{◌≡◌, ℕ, zero, suc, ◌<◌, ◌≤◌, List, [], refl, ap, ◌∙◌, arith, Result, Ok, Err, IfOk}
 use Rattle.std.specs.Prelude.{String}
 use Rattle.std.specs.String.{string_bytes}
-use Rattle.p2p_threads_shared.specs.declared.numbered.Numbered.{Numbered}
+use Rattle.p2p_threads.specs.declared.numbered.Numbered.{Numbered}
 use Rattle.p2p_sim.specs.ThreadText.{below, line_onto, lines_onto, thread_text}
 use Rattle.p2p_sim.specs.Taken.{taken_of, HaveAll, taken_onto}
 

@@ -9,13 +9,13 @@ use Rattle.p2p_base.specs.declared.policy.Keep.{Keep}
 use Rattle.p2p_base.specs.declared.policy.Keep.TheVariants as how
 use native.Mathlib.Nat.{suc-mul}
 use Rattle.p2p_threads.specs.History.{after, times, IsEachOnce, entry_at, weight}
-use Rattle.p2p_threads_shared.specs.Mailbox.{mailbox_reply, mailbox_next}
-use Rattle.p2p_threads_shared.specs.Sending.{Made, numbers_of, RisesWithin, AreCallsOf, AreParts, joined}
-use Rattle.p2p_threads_shared.specs.declared.mailbox.MailboxCall.{MailboxCall}
-use Rattle.p2p_threads_shared.specs.declared.mailbox.MailboxCall.TheVariants.{Enqueue, Take}
-use Rattle.p2p_threads_shared.specs.declared.mailbox.MailboxReply.{MailboxReply}
-use Rattle.p2p_threads_shared.specs.declared.numbered.Numbered.{Numbered}
-use Rattle.p2p_threads_shared.proofs.Parts.{within-wider}
+use Rattle.p2p_threads.specs.Mailbox.{mailbox_reply, mailbox_next}
+use Rattle.p2p_threads.specs.Sending.{Made, numbers_of, RisesWithin, AreCallsOf, AreParts, joined}
+use Rattle.p2p_threads.specs.declared.mailbox.MailboxCall.{MailboxCall}
+use Rattle.p2p_threads.specs.declared.mailbox.MailboxCall.TheVariants.{Enqueue, Take}
+use Rattle.p2p_threads.specs.declared.mailbox.MailboxReply.{MailboxReply}
+use Rattle.p2p_threads.specs.declared.numbered.Numbered.{Numbered}
+use Rattle.p2p_threads.proofs.Parts.{within-wider}
 use Rattle.p2p_threads.proofs.Places.{times-append}
 use Rattle.p2p_sim.specs.ThreadText.{below}
 use Rattle.p2p_sim.specs.Taken.{taken_of, HaveAll}

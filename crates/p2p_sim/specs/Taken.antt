@@ -1,7 +1,7 @@
 -- What is taken of each sender.
 use Rattle.std.specs.Prelude.{◌≡◌, ℕ, zero, suc, ◌==◌, ◌<◌, List, filter, map}
 use Rattle.p2p_sim.specs.ThreadText.{below, line_onto}
-use Rattle.p2p_threads_shared.specs.declared.numbered.Numbered.{Numbered}
+use Rattle.p2p_threads.specs.declared.numbered.Numbered.{Numbered}
 
 -- the numbers of a sender among the messages, in order
 abbrev pub taken_of : ℕ → List Numbered → List ℕ

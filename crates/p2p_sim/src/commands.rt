@@ -21,7 +21,7 @@ use crate::threads::{asks_threads, thread_report};
 use crate::top::sim;
 use p2p_net::World;
 use p2p_runtime::{Sink, Source};
-use p2p_threads_shared::Gate;
+use p2p_threads::Gate;
 use std::alloc::Global;
 use std::sync::Wait;
 use std::thread::Threads;

@@ -5,3 +5,5 @@ pub mod Sights
 pub mod Moves
 pub mod Hands
 pub mod Passes
+pub mod Parts
+pub mod Takes

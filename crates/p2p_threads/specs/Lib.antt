@@ -3,3 +3,8 @@ pub mod Account
 pub mod Turns
 pub mod Steps
 pub mod Seats
+pub mod Limiter
+pub mod Mailbox
+pub mod Messenger
+pub mod Sending
+pub mod Takes

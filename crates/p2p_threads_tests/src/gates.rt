@@ -1,5 +1,5 @@
 //! The gate of the tests.
-use p2p_threads_shared::Gate;
+use p2p_threads::Gate;
 use std::sync::atomic::{AtomicU64, Ordering};
 use std::thread::yield_now;
 

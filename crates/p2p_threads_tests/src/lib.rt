@@ -1,4 +1,4 @@
-//! The tests of `p2p_threads` and of the crates above it, through their public names alone. They stand apart so that the gate
+//! The tests of `p2p_threads` and of the command above it, through their public names alone. They stand apart so that the gate
 //! proves those crates once.
 #![tactic(auto)]
 

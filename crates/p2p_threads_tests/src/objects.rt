@@ -5,9 +5,9 @@ ghost use Rattle.p2p_threads.specs.Account.{IsMadeBy};
 use p2p_base::{Feedback, Key, Unreliable};
 use p2p_router::{Mailbox, Messenger};
 use p2p_runtime::{KeyedRateLimiter, Quota};
-use p2p_threads::{Pass, Shared};
-use p2p_threads_shared::{
-    CheckCall, LimiterObject, MessengerCall, MessengerObject, MessengerReply, SharedMessenger,
+use p2p_threads::{
+    CheckCall, LimiterObject, MessengerCall, MessengerObject, MessengerReply, Pass, Shared,
+    SharedMessenger,
 };
 use std::alloc::{AllocError, Global};
 use std::sync::Wait;

@@ -1,8 +1,7 @@
 //! Two senders at a mailbox of capacity 1.
 use crate::gates::Meeting;
 use p2p_base::Mailbox;
-use p2p_threads::Shared;
-use p2p_threads_shared::{MailboxCall, MailboxObject, MailboxReply, Numbered, senders};
+use p2p_threads::{MailboxCall, MailboxObject, MailboxReply, Numbered, Shared, senders};
 use std::alloc::{AllocError, Global};
 use std::sync::Wait;
 use std::thread::Threads;

@@ -10,7 +10,7 @@ use crate::status::Status;
 use crate::threads::running::run;
 pub use crate::threads::words::asked as asks_threads;
 use p2p_runtime::{Sink, write_all};
-use p2p_threads_shared::Gate;
+use p2p_threads::Gate;
 use std::alloc::Global;
 use std::sync::Wait;
 use std::thread::Threads;

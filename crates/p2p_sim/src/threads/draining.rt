@@ -2,7 +2,7 @@
 ghost use Rattle.std.specs.Prelude.{◌≡◌, IfOk};
 
 use p2p_base::Mailbox;
-use p2p_threads_shared::Numbered;
+use p2p_threads::Numbered;
 use std::alloc::{AllocError, Global};
 
 /// All messages of a mailbox, in order.

@@ -5,7 +5,7 @@ ghost use Rattle.p2p_sim.specs.ThreadText.{more_onto, numbers_onto, line_onto, t
 ghost use Rattle.p2p_sim.specs.Taken.{taken_of, HaveAll, taken_onto};
 
 use itoa::Buffer;
-use p2p_threads_shared::Numbered;
+use p2p_threads::Numbered;
 use std::alloc::{AllocError, Global};
 
 fn put(out: &mut String, text: &str) -> Result<(), AllocError>

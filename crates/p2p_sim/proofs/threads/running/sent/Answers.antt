@@ -1,7 +1,7 @@
 use Rattle.std.proofs.Common.{◌≡◌, ℕ, ◌*◌, List, ◌++◌, length, replicate, ap, ◌∙◌, arith}
 use Rattle.p2p_base.specs.Queue.{Queue, empty_queue}
-use Rattle.p2p_threads_shared.specs.Sending.{Made, joined}
-use Rattle.p2p_threads_shared.specs.declared.numbered.Numbered.{Numbered}
+use Rattle.p2p_threads.specs.Sending.{Made, joined}
+use Rattle.p2p_threads.specs.declared.numbered.Numbered.{Numbered}
 use Rattle.p2p_sim.specs.Taken.{taken_of, HaveAll}
 use Rattle.p2p_sim.proofs.Messages.{Call, left, all_sent}
 use Rattle.p2p_sim.proofs.threads.running.sent.Goals as goal

@@ -4,12 +4,12 @@ ghost use Rattle.std.specs.Thread.{IsSync};
 ghost use mathlib.Core.List.{IsPrefix};
 ghost use Rattle.p2p_threads.specs.Account.{IsMadeBy, IsAlike};
 ghost use Rattle.p2p_threads.specs.History.{IsEachOnce};
-ghost use Rattle.p2p_threads_shared.specs.Sending.{HaveSent, HaveBegun};
+ghost use Rattle.p2p_threads.specs.Sending.{HaveSent, HaveBegun};
 
 use crate::gate::Gate;
 use crate::mailbox::{MailboxCall, MailboxObject, SharedMailbox};
 use crate::numbered::Numbered;
-use p2p_threads::Pass;
+use crate::shared::Pass;
 use std::alloc::AllocError;
 use std::sync::Wait;
 use std::thread::{Threads, join};

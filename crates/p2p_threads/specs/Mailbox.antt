@@ -3,10 +3,10 @@ use Rattle.p2p_base.specs.Queue.{Queue, enqueue_answer, enqueued, oldest, withou
 use Rattle.p2p_base.specs.declared.policy.Keep.{Keep}
 use Rattle.p2p_base.specs.declared.outcome.Sent.{Sent}
 use Rattle.p2p_base.specs.declared.outcome.Sent.TheVariants as sent
-use Rattle.p2p_threads_shared.specs.declared.mailbox.MailboxCall.{MailboxCall}
-use Rattle.p2p_threads_shared.specs.declared.mailbox.MailboxCall.TheVariants.{Enqueue, Take}
-use Rattle.p2p_threads_shared.specs.declared.mailbox.MailboxReply.{MailboxReply}
-use Rattle.p2p_threads_shared.specs.declared.mailbox.MailboxReply.TheVariants as told
+use Rattle.p2p_threads.specs.declared.mailbox.MailboxCall.{MailboxCall}
+use Rattle.p2p_threads.specs.declared.mailbox.MailboxCall.TheVariants.{Enqueue, Take}
+use Rattle.p2p_threads.specs.declared.mailbox.MailboxReply.{MailboxReply}
+use Rattle.p2p_threads.specs.declared.mailbox.MailboxReply.TheVariants as told
 
 module _ {T : Type 0} where
   -- what an enqueue is told, without the message

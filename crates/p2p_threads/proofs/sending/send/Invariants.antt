@@ -1,8 +1,8 @@
 use Rattle.std.proofs.Common.{◌≤◌, [], ◌∷◌}
 use mathlib.Core.List.{IsPrefix}
 use Rattle.p2p_threads.specs.Account.{IsMadeBy, IsAlike}
-use Rattle.p2p_threads_shared.specs.Sending.{HaveSent}
-use Rattle.p2p_threads_shared.proofs.sending.send.Given as goal
+use Rattle.p2p_threads.specs.Sending.{HaveSent}
+use Rattle.p2p_threads.proofs.sending.send.Given as goal
 
 abbrev pub invariant-loop-number : goal.invariant-loop-number
 invariant-loop-number g l = record {

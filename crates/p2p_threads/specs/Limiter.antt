@@ -3,7 +3,7 @@ use Rattle.std.specs.Prelude.{ℕ, Result}
 use Rattle.std.specs.declared.cmp.Ordering.{Ordering}
 use Rattle.p2p_runtime.specs.QuotaKeys.{KeptByKey}
 use Rattle.p2p_runtime.specs.QuotaCheck.{check_answer, after_check}
-use Rattle.p2p_threads_shared.specs.declared.limiter.CheckCall.{CheckCall}
+use Rattle.p2p_threads.specs.declared.limiter.CheckCall.{CheckCall}
 
 module _ {K : Type 0} (cmp : K → K → Ordering) where
   abbrev pub limiter_reply : KeptByKey K → CheckCall K → Result (Unit {0}) ℕ

@@ -3,10 +3,10 @@ use Rattle.std.specs.Prelude.{length}
 use Rattle.std.specs.Int.{w64, to_be_bytes}
 use Rattle.p2p_flow.specs.declared.plain.Recipients.TheVariants.{One}
 use Rattle.p2p_router.specs.Messenger.{Desk, content_answered, content_taken, subscribed, shut}
-use Rattle.p2p_threads_shared.specs.declared.messenger.MessengerCall.{MessengerCall}
-use Rattle.p2p_threads_shared.specs.declared.messenger.MessengerCall.TheVariants.{Content, Subscribe, Close}
-use Rattle.p2p_threads_shared.specs.declared.messenger.MessengerReply.{MessengerReply}
-use Rattle.p2p_threads_shared.specs.declared.messenger.MessengerReply.TheVariants as told
+use Rattle.p2p_threads.specs.declared.messenger.MessengerCall.{MessengerCall}
+use Rattle.p2p_threads.specs.declared.messenger.MessengerCall.TheVariants.{Content, Subscribe, Close}
+use Rattle.p2p_threads.specs.declared.messenger.MessengerReply.{MessengerReply}
+use Rattle.p2p_threads.specs.declared.messenger.MessengerReply.TheVariants as told
 
 module _ {P : Type 0} where
   abbrev pub messenger_reply : Desk P → MessengerCall P → MessengerReply

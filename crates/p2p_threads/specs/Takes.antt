@@ -4,11 +4,11 @@ use Rattle.p2p_base.specs.Queue.{Queue}
 use Rattle.p2p_base.specs.declared.policy.Keep.{Keep}
 use Rattle.p2p_base.specs.declared.policy.Keep.TheVariants as keep
 use Rattle.p2p_threads.specs.History.{after, Replays}
-use Rattle.p2p_threads_shared.specs.Mailbox.{mailbox_reply, mailbox_next}
-use Rattle.p2p_threads_shared.specs.declared.mailbox.MailboxCall.{MailboxCall}
-use Rattle.p2p_threads_shared.specs.declared.mailbox.MailboxCall.TheVariants.{Enqueue, Take}
-use Rattle.p2p_threads_shared.specs.declared.mailbox.MailboxReply.{MailboxReply}
-use Rattle.p2p_threads_shared.specs.declared.mailbox.MailboxReply.TheVariants as told
+use Rattle.p2p_threads.specs.Mailbox.{mailbox_reply, mailbox_next}
+use Rattle.p2p_threads.specs.declared.mailbox.MailboxCall.{MailboxCall}
+use Rattle.p2p_threads.specs.declared.mailbox.MailboxCall.TheVariants.{Enqueue, Take}
+use Rattle.p2p_threads.specs.declared.mailbox.MailboxReply.{MailboxReply}
+use Rattle.p2p_threads.specs.declared.mailbox.MailboxReply.TheVariants as told
 
 -- calls of a mailbox, each with what it was told
 abbrev pub Calls : Type 0 → Type 0

@@ -4,11 +4,11 @@ use Rattle.std.specs.Result.{result_and}
 use Rattle.std.proofs.lemmas.List.{append-nil}
 use lib.ListN.{replicate-append-replicate, length-replicate, length-append}
 use mathlib.Core.List.{IsPrefix}
-use Rattle.p2p_threads_shared.specs.Sending.{Made, Knows, numbers_of, RisesWithin, AreCallsOf, AreParts, joined, HaveSent, AreUpTo, HaveBegun}
-use Rattle.p2p_threads_shared.specs.declared.mailbox.MailboxCall.{MailboxCall}
-use Rattle.p2p_threads_shared.specs.declared.mailbox.MailboxCall.TheVariants.{Enqueue}
-use Rattle.p2p_threads_shared.specs.declared.mailbox.MailboxReply.{MailboxReply}
-use Rattle.p2p_threads_shared.specs.declared.numbered.Numbered.{Numbered}
+use Rattle.p2p_threads.specs.Sending.{Made, Knows, numbers_of, RisesWithin, AreCallsOf, AreParts, joined, HaveSent, AreUpTo, HaveBegun}
+use Rattle.p2p_threads.specs.declared.mailbox.MailboxCall.{MailboxCall}
+use Rattle.p2p_threads.specs.declared.mailbox.MailboxCall.TheVariants.{Enqueue}
+use Rattle.p2p_threads.specs.declared.mailbox.MailboxReply.{MailboxReply}
+use Rattle.p2p_threads.specs.declared.numbered.Numbered.{Numbered}
 
 abbrev Entry : Type 0
 Entry = ℕ × (MailboxCall Numbered × MailboxReply Numbered)

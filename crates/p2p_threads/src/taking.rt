@@ -2,7 +2,7 @@
 ghost use Rattle.std.specs.Prelude.{◌≡◌, Bool, ◌++◌, filter};
 ghost use mathlib.Core.List.{IsPrefix};
 ghost use Rattle.p2p_base.specs.Queue.{Queue};
-ghost use Rattle.p2p_threads_shared.specs.Takes.{Calls, NeverReplaces, ReplaysOn, accepted_in, taken_in, left_after};
+ghost use Rattle.p2p_threads.specs.Takes.{Calls, NeverReplaces, ReplaysOn, accepted_in, taken_in, left_after};
 
 use p2p_base::UnreliablePolicy;
 

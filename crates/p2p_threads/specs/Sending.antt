@@ -2,10 +2,10 @@
 use Rattle.std.specs.Prelude.{◌≡◌, ℕ, zero, suc, ◌+◌, ◌≤◌, List, [], ◌∷◌, ◌++◌, length, map}
 use Rattle.p2p_base.specs.Queue.{Queue}
 use Rattle.p2p_threads.specs.Account.{Account}
-use Rattle.p2p_threads_shared.specs.declared.mailbox.MailboxCall.{MailboxCall}
-use Rattle.p2p_threads_shared.specs.declared.mailbox.MailboxCall.TheVariants.{Enqueue}
-use Rattle.p2p_threads_shared.specs.declared.mailbox.MailboxReply.{MailboxReply}
-use Rattle.p2p_threads_shared.specs.declared.numbered.Numbered.{Numbered}
+use Rattle.p2p_threads.specs.declared.mailbox.MailboxCall.{MailboxCall}
+use Rattle.p2p_threads.specs.declared.mailbox.MailboxCall.TheVariants.{Enqueue}
+use Rattle.p2p_threads.specs.declared.mailbox.MailboxReply.{MailboxReply}
+use Rattle.p2p_threads.specs.declared.numbered.Numbered.{Numbered}
 
 -- calls with what they were told, each with its place
 abbrev pub Made : Type 0

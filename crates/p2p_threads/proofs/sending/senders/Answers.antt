@@ -1,8 +1,8 @@
 use Rattle.std.proofs.Common.{◌≡◌, ◌++◌, Result, OnOk, ap, ◌∙◌}
 use Rattle.p2p_threads.proofs.Histories.{begins_length}
-use Rattle.p2p_threads_shared.specs.Sending.{Knows}
-use Rattle.p2p_threads_shared.proofs.Parts.{lent_sent, lent_begun, when_ok}
-use Rattle.p2p_threads_shared.proofs.sending.senders.Goals as goal
+use Rattle.p2p_threads.specs.Sending.{Knows}
+use Rattle.p2p_threads.proofs.Parts.{lent_sent, lent_begun, when_ok}
+use Rattle.p2p_threads.proofs.sending.senders.Goals as goal
 
 pub returns-clause-sent : goal.returns-clause-sent
 returns-clause-sent g c =

@@ -1,5 +1,5 @@
 use Rattle.std.proofs.Common.{◌-◌}
-use Rattle.p2p_threads_shared.proofs.sending.+fn-send_from-join+arg2+fn-send_from-join+arg3+send_from.Given as goal
+use Rattle.p2p_threads.proofs.sending.+fn-send_from-join+arg2+fn-send_from-join+arg3+send_from.Given as goal
 
 abbrev pub decreases-join+arg2 : goal.decreases-join+arg2
 decreases-join+arg2 g l = l.half

@@ -1,8 +1,8 @@
 use Rattle.std.proofs.Common.{◌≡◌, [], refl, ◌∙◌, arith}
 use Rattle.std.proofs.lemmas.List.{append-nil}
 use Rattle.p2p_threads.proofs.Histories.{begins_length, begins_more}
-use Rattle.p2p_threads_shared.proofs.Parts.{none_sent, one_more, same_sent, one_begun}
-use Rattle.p2p_threads_shared.proofs.sending.send.Goals as goal
+use Rattle.p2p_threads.proofs.Parts.{none_sent, one_more, same_sent, one_begun}
+use Rattle.p2p_threads.proofs.sending.send.Goals as goal
 
 pub loop-number-init : goal.loop-number-init
 loop-number-init g c = record {

@@ -1,7 +1,7 @@
 use Rattle.std.proofs.Common.{◌≡◌, sym}
-use Rattle.p2p_threads_shared.specs.Takes.{taken_in, left_after}
-use Rattle.p2p_threads_shared.proofs.Takes.{kept_is_taken, begins_each}
-use Rattle.p2p_threads_shared.proofs.taking.taken_in_order.Goals as goal
+use Rattle.p2p_threads.specs.Takes.{taken_in, left_after}
+use Rattle.p2p_threads.proofs.Takes.{kept_is_taken, begins_each}
+use Rattle.p2p_threads.proofs.taking.taken_in_order.Goals as goal
 
 pub returns-clause-left : goal.returns-clause-left
 returns-clause-left g c = λ q h never replays. kept_is_taken g.T.UnreliablePolicy.keep_of q h never replays

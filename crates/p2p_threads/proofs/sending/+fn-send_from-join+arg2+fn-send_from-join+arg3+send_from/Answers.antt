@@ -1,8 +1,8 @@
 use Rattle.std.proofs.Common.{◌≡◌, ◌+◌, ◌-◌, ◌≤◌, ◌/◌, replicate, subst, arith}
 use Rattle.p2p_threads.proofs.Histories.{begins_length}
-use Rattle.p2p_threads_shared.specs.Sending.{HaveSent, HaveBegun}
-use Rattle.p2p_threads_shared.proofs.Parts.{both_sent_all, both_begun, both_ok}
-use Rattle.p2p_threads_shared.proofs.sending.+fn-send_from-join+arg2+fn-send_from-join+arg3+send_from.Goals as goal
+use Rattle.p2p_threads.specs.Sending.{HaveSent, HaveBegun}
+use Rattle.p2p_threads.proofs.Parts.{both_sent_all, both_begun, both_ok}
+use Rattle.p2p_threads.proofs.sending.+fn-send_from-join+arg2+fn-send_from-join+arg3+send_from.Goals as goal
 
 pub returns-clause-sent : goal.returns-clause-sent
 returns-clause-sent g t c =

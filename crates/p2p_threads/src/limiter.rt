@@ -1,8 +1,9 @@
 //! A limiter of many keys that threads share.
 ghost use Rattle.std.specs.Prelude.{◌≡◌};
 
+use crate::served::Served;
+use crate::shared::Shared;
 use p2p_runtime::KeyedRateLimiter;
-use p2p_threads::{Served, Shared};
 use std::alloc::{AllocError, Global};
 use std::marker::Model;
 
@@ -46,7 +47,7 @@ impl<K: Ord> LimiterObject<K> {
 }
 
 impl<K: Ord + Copy + Send> Served for LimiterObject<K> {
-    ghost use Rattle.p2p_threads_shared.specs.Limiter.{limiter_reply, limiter_next};
+    ghost use Rattle.p2p_threads.specs.Limiter.{limiter_reply, limiter_next};
 
     type Call = CheckCall<K>;
 

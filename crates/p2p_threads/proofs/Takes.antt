@@ -6,11 +6,11 @@ use Rattle.p2p_base.specs.Queue.{Queue, has_room, enqueue_answer, enqueued}
 use Rattle.p2p_base.specs.declared.policy.Keep.{Keep}
 use Rattle.p2p_base.specs.declared.policy.Keep.TheVariants as keep
 use Rattle.p2p_threads.specs.History.{replayed}
-use Rattle.p2p_threads_shared.specs.Mailbox.{told_of, mailbox_reply, mailbox_next}
-use Rattle.p2p_threads_shared.specs.Takes.{Calls, accepted, taken, accepted_in, taken_in, NeverReplaces, ReplaysOn, left_after}
-use Rattle.p2p_threads_shared.specs.declared.mailbox.MailboxCall.{MailboxCall}
-use Rattle.p2p_threads_shared.specs.declared.mailbox.MailboxReply.{MailboxReply}
-use Rattle.p2p_threads_shared.specs.declared.mailbox.MailboxCall.TheVariants.{Enqueue, Take}
+use Rattle.p2p_threads.specs.Mailbox.{told_of, mailbox_reply, mailbox_next}
+use Rattle.p2p_threads.specs.Takes.{Calls, accepted, taken, accepted_in, taken_in, NeverReplaces, ReplaysOn, left_after}
+use Rattle.p2p_threads.specs.declared.mailbox.MailboxCall.{MailboxCall}
+use Rattle.p2p_threads.specs.declared.mailbox.MailboxReply.{MailboxReply}
+use Rattle.p2p_threads.specs.declared.mailbox.MailboxCall.TheVariants.{Enqueue, Take}
 
 module _ {T : Type 0} where
   abbrev queue_of : List T → ℕ → Bool → Queue T

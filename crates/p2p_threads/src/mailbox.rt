@@ -1,9 +1,10 @@
 //! A mailbox that threads share.
 ghost use Rattle.std.specs.Prelude.{◌≡◌};
-ghost use Rattle.p2p_threads_shared.specs.Mailbox.{told_of};
+ghost use Rattle.p2p_threads.specs.Mailbox.{told_of};
 
+use crate::served::Served;
+use crate::shared::Shared;
 use p2p_base::{Mailbox, Sent, UnreliablePolicy};
-use p2p_threads::{Served, Shared};
 use std::alloc::{AllocError, Global};
 use std::marker::Model;
 
@@ -77,7 +78,7 @@ impl<T> MailboxObject<T> {
 }
 
 impl<T: UnreliablePolicy + Copy + Send> Served for MailboxObject<T> {
-    ghost use Rattle.p2p_threads_shared.specs.Mailbox.{mailbox_reply, mailbox_next};
+    ghost use Rattle.p2p_threads.specs.Mailbox.{mailbox_reply, mailbox_next};
 
     type Call = MailboxCall<T>;
 

@@ -1,11 +1,12 @@
 //! A messenger that threads share.
 ghost use Rattle.std.specs.Prelude.{◌≡◌};
 
+use crate::served::Served;
+use crate::shared::Shared;
 use bytes::Bytes;
 use p2p_base::Unreliable;
 use p2p_flow::{Carrier, Connected, Recipients};
 use p2p_router::Messenger;
-use p2p_threads::{Served, Shared};
 use std::alloc::{AllocError, Global};
 use std::marker::Model;
 
@@ -68,7 +69,7 @@ impl<P> MessengerObject<P> {
 }
 
 impl<P: Copy + Send> Served for MessengerObject<P> {
-    ghost use Rattle.p2p_threads_shared.specs.Messenger.{messenger_reply, messenger_next};
+    ghost use Rattle.p2p_threads.specs.Messenger.{messenger_reply, messenger_next};
 
     type Call = MessengerCall<P>;
 
