@@ -7,7 +7,7 @@ use Rattle.p2p_log_rules.specs.declared.row.Row.{Row}
 use Rattle.p2p_log_rules.specs.Effect.{only}
 use Rattle.p2p_net_queues.specs.Tables as table
 use Rattle.p2p_net_links.specs.declared.links.Links.{Links}
-use Rattle.p2p_net_dialer.specs.Attempts.{Resolves, AnswersDial}
+use Rattle.p2p_net_gates.specs.Attempts.{Resolves, AnswersDial}
 use Rattle.p2p_net_tracker.specs.Asking.{ask_answer, after_asking}
 use Rattle.p2p_net_tracker.specs.Reading.{Answers, Continues}
 use Rattle.p2p_net_tracker.specs.declared.tracker.Tracker.{Tracker}

@@ -34,9 +34,9 @@ use Rattle.p2p_net_channels.proofs.Readers.{reader_is}
 use Rattle.p2p_net_channels.proofs.Registering.{channels_registered}
 use Rattle.p2p_net_links.specs.Stands.{LinksStand}
 use Rattle.p2p_net_links.specs.declared.links.Links.{Links}
-use Rattle.p2p_net_dialer.specs.Dialing.{started}
-use Rattle.p2p_net_dialer.specs.Stands.{DialerStands}
-use Rattle.p2p_net_dialer.proofs.Changes.{dialer_starts}
+use Rattle.p2p_net_gates.specs.Dialing.{started}
+use Rattle.p2p_net_gates.specs.DialerStands.{DialerStands}
+use Rattle.p2p_net_gates.proofs.DialerChanges.{dialer_starts}
 use Rattle.p2p_net_node.specs.Places as place
 use Rattle.p2p_net_node.specs.Ready.{capacity_by}
 use Rattle.p2p_net_calls.specs.Calls.{Registers, Starts, ReadsOn, Reads}

@@ -7,7 +7,7 @@ use Rattle.p2p_log_rules.specs.Effect.{only, oldest_read}
 use Rattle.p2p_log_rules.specs.Listening.{quota_of}
 use Rattle.p2p_net_queues.specs.Tables.{waiting}
 use Rattle.p2p_net_channels.specs.Channels.{registered_with, has_reader, read_from, closed_row, closed_with}
-use Rattle.p2p_net_dialer.specs.Dialing.{started}
+use Rattle.p2p_net_gates.specs.Dialing.{started}
 use Rattle.p2p_net_node.specs.Staying.{Stays}
 use Rattle.p2p_net_node.specs.Ready.{capacity_by}
 use Rattle.p2p_net_node.specs.Routing as routing

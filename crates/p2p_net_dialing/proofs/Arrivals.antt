@@ -37,17 +37,17 @@ use Rattle.p2p_log_rules.specs.Facts.{key_at, is_up, with_named}
 use Rattle.p2p_log_rules.specs.Links.{listening_ends_of}
 use Rattle.p2p_log_rules.proofs.Handshakes.{handshakes_of-apart}
 use Rattle.p2p_log_rules.proofs.Links.{listening_ends_of-linked, listening_ends_of-unlinked}
-use Rattle.p2p_net_listener.proofs.Leaving.{steps_apart}
+use Rattle.p2p_net_gates.proofs.LeavingListener.{steps_apart}
 use Rattle.p2p_log_laws.proofs.Untouched.{line-untouched}
 use Rattle.p2p_net_queues.proofs.Going.{line-kept}
 use Rattle.p2p_net_queues.specs.Tables as table
-use Rattle.p2p_net_dialer.specs.Attempts.{AnswersDial}
-use Rattle.p2p_net_dialer.specs.Stands.{DialerStands}
-use Rattle.p2p_net_listener.specs.Listening.{arrived as has_arrived}
-use Rattle.p2p_net_listener.specs.Stands.{ListenerStands}
-use Rattle.p2p_net_listener.specs.declared.listening.Listening.{Listening}
-use Rattle.p2p_net_listener.proofs.Changes.{listener_frame, listener_arrived}
-use Rattle.p2p_net_listener.proofs.Handshakes.{other_tells}
+use Rattle.p2p_net_gates.specs.Attempts.{AnswersDial}
+use Rattle.p2p_net_gates.specs.DialerStands.{DialerStands}
+use Rattle.p2p_net_gates.specs.Listening.{arrived as has_arrived}
+use Rattle.p2p_net_gates.specs.ListenerStands.{ListenerStands}
+use Rattle.p2p_net_gates.specs.declared.listening.Listening.{Listening}
+use Rattle.p2p_net_gates.proofs.ListenerChanges.{listener_frame, listener_arrived}
+use Rattle.p2p_net_gates.proofs.Handshakes.{other_tells}
 use Rattle.p2p_net_links.specs.declared.links.Links.{Links}
 use Rattle.p2p_net_links.specs.Stands.{LinksStand}
 use Rattle.p2p_net_links.proofs.Drops.{DropsNone, drops_none-act}

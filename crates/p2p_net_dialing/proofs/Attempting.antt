@@ -43,11 +43,11 @@ use Rattle.p2p_log_laws.proofs.Untouched.{line-untouched}
 use Rattle.p2p_net_queues.specs.Tables as table
 use Rattle.p2p_net_queues.proofs.Going.{line-append, line-kept}
 use Rattle.p2p_net_queues.specs.Tables.{AreBut}
-use Rattle.p2p_net_dialer.specs.Attempts.{with_told}
-use Rattle.p2p_net_dialer.specs.Stands.{gates_at, told_item, attempt_of, AttemptStands, DialerStands}
-use Rattle.p2p_net_dialer.specs.declared.attempt.RunningAttempt.{RunningAttempt}
-use Rattle.p2p_net_dialer.specs.declared.dialing.Dialing.{Dialing}
-use Rattle.p2p_net_dialer.proofs.Attempting.{attempt_changed}
+use Rattle.p2p_net_gates.specs.Attempts.{with_told}
+use Rattle.p2p_net_gates.specs.DialerStands.{gates_at, told_item, attempt_of, AttemptStands, DialerStands}
+use Rattle.p2p_net_gates.specs.declared.attempt.RunningAttempt.{RunningAttempt}
+use Rattle.p2p_net_gates.specs.declared.dialing.Dialing.{Dialing}
+use Rattle.p2p_net_gates.proofs.Attempting.{attempt_changed}
 use Rattle.p2p_net_links.specs.Stands.{LinksStand}
 use Rattle.p2p_net_links.specs.declared.links.Links.{Links}
 use Rattle.p2p_net_node.specs.Staying.{TellsAttempt}

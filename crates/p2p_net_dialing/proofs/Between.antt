@@ -4,7 +4,7 @@ use Rattle.std.specs.Prelude.{slice_get, slice_set, ◌==◌}
 use Rattle.std.proofs.lemmas.Option.{same_Some}
 use Rattle.p2p_log.specs.declared.config.Config.{Config}
 use Rattle.p2p_log.specs.declared.entry.Entry.{Entry}
-use Rattle.p2p_net_dialer.specs.Stands.{DialerStands}
+use Rattle.p2p_net_gates.specs.DialerStands.{DialerStands}
 use Rattle.p2p_net_node.specs.Stands.{NodeStands}
 use Rattle.p2p_net_node.specs.declared.node.Node.{Node}
 use Rattle.p2p_net_node.proofs.Nodes.{slice_get-set, below}

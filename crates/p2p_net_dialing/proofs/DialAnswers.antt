@@ -25,10 +25,10 @@ use Rattle.p2p_log_rules.specs.Facts.{starts}
 use Rattle.p2p_log_rules.proofs.Touches.{reads, writes}
 use Rattle.p2p_net_queues.specs.Tables as table
 use Rattle.p2p_net_queues.specs.Tables.{AreBut}
-use Rattle.p2p_net_dialer.specs.Attempts.{link_told, answered, with_told, AnswersDial}
-use Rattle.p2p_net_dialer.specs.Stands.{gates_at, told_item, attempt_of, AttemptStands, DialerStands}
-use Rattle.p2p_net_dialer.specs.declared.attempt.RunningAttempt.{RunningAttempt}
-use Rattle.p2p_net_dialer.specs.declared.dialing.Dialing.{Dialing}
+use Rattle.p2p_net_gates.specs.Attempts.{link_told, answered, with_told, AnswersDial}
+use Rattle.p2p_net_gates.specs.DialerStands.{gates_at, told_item, attempt_of, AttemptStands, DialerStands}
+use Rattle.p2p_net_gates.specs.declared.attempt.RunningAttempt.{RunningAttempt}
+use Rattle.p2p_net_gates.specs.declared.dialing.Dialing.{Dialing}
 use Rattle.p2p_net_links.specs.Stands.{LinksStand}
 use Rattle.p2p_net_links.specs.declared.links.Links.{Links}
 use Rattle.p2p_net_node.specs.Staying.{TellsAttempt}

@@ -46,12 +46,12 @@ use Rattle.p2p_log_rules.specs.Dialing.{Pace, pace_at, next_deadline, Dials, dia
 use Rattle.p2p_log_rules.proofs.Handshakes.{handshakes_of-apart}
 use Rattle.p2p_log_laws.proofs.Untouched.{line-untouched}
 use Rattle.p2p_net_queues.proofs.Going.{put_in}
-use Rattle.p2p_net_dialer.specs.Dialing as dialing
-use Rattle.p2p_net_dialer.specs.Stands.{no_gates, gates_at, actor_of, DialerStands}
-use Rattle.p2p_net_dialer.specs.declared.dialing.Dialed.{Dialed}
-use Rattle.p2p_net_dialer.specs.declared.dialing.Dialing.{Dialing}
-use Rattle.p2p_net_dialer.specs.declared.attempt.RunningAttempt.{RunningAttempt}
-use Rattle.p2p_net_dialer.proofs.Changes.{attempts_with, IsBegun, begun_is, timeout_is, dialer_stepped}
+use Rattle.p2p_net_gates.specs.Dialing as dialing
+use Rattle.p2p_net_gates.specs.DialerStands.{no_gates, gates_at, actor_of, DialerStands}
+use Rattle.p2p_net_gates.specs.declared.dialing.Dialed.{Dialed}
+use Rattle.p2p_net_gates.specs.declared.dialing.Dialing.{Dialing}
+use Rattle.p2p_net_gates.specs.declared.attempt.RunningAttempt.{RunningAttempt}
+use Rattle.p2p_net_gates.proofs.DialerChanges.{attempts_with, IsBegun, begun_is, timeout_is, dialer_stepped}
 use Rattle.p2p_net_links.specs.Stands.{LinksStand}
 use Rattle.p2p_net_links.specs.declared.links.Links.{Links}
 use Rattle.p2p_net_tracker.specs.Dialed.{taken_names, asked_puts, names_asked, dialed_row}

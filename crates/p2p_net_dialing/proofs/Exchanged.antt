@@ -42,14 +42,14 @@ use Rattle.p2p_log_laws.proofs.Untouched.{line-untouched}
 use Rattle.p2p_net_queues.specs.Tables as table
 use Rattle.p2p_net_queues.specs.Tables.{AreBut}
 use Rattle.p2p_net_queues.proofs.Going.{line-kept}
-use Rattle.p2p_net_dialer.specs.Attempts.{dialed_key}
-use Rattle.p2p_net_dialer.specs.Stands.{DialerStands}
-use Rattle.p2p_net_dialer.proofs.Attempting.{dialed_key_is, finished_line, finished_row_is, dialer_finished}
-use Rattle.p2p_net_listener.specs.Stands.{ListenerStands, LeavesListener}
-use Rattle.p2p_net_listener.specs.declared.listening.Listening.{Listening}
-use Rattle.p2p_net_listener.proofs.Changes.{listener_frame, listener_finished}
-use Rattle.p2p_net_listener.proofs.Leaving.{listener_apart, listener_untold}
-use Rattle.p2p_net_listener.proofs.Finishing.{end_accepts, end_finished}
+use Rattle.p2p_net_gates.specs.Attempts.{dialed_key}
+use Rattle.p2p_net_gates.specs.DialerStands.{DialerStands}
+use Rattle.p2p_net_gates.proofs.Attempting.{dialed_key_is, finished_line, finished_row_is, dialer_finished}
+use Rattle.p2p_net_gates.specs.ListenerStands.{ListenerStands, LeavesListener}
+use Rattle.p2p_net_gates.specs.declared.listening.Listening.{Listening}
+use Rattle.p2p_net_gates.proofs.ListenerChanges.{listener_frame, listener_finished}
+use Rattle.p2p_net_gates.proofs.LeavingListener.{listener_apart, listener_untold}
+use Rattle.p2p_net_gates.proofs.ListeningEnds.{end_accepts, end_finished}
 use Rattle.p2p_net_tracker.specs.Finishing.{finished_put, told_finished}
 use Rattle.p2p_net_tracker.specs.Stands.{is_told, TrackerStands}
 use Rattle.p2p_net_tracker.specs.declared.tracker.Tracker.{Tracker}

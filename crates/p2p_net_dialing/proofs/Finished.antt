@@ -9,7 +9,7 @@ use Rattle.p2p_log_rules.specs.declared.row.Row.{Row}
 use Rattle.p2p_log_rules.specs.Effect.{only}
 use Rattle.p2p_net_queues.specs.Tables as table
 use Rattle.p2p_net_queues.specs.Tables.{AreBut}
-use Rattle.p2p_net_dialer.specs.Attempts.{dialed_key}
+use Rattle.p2p_net_gates.specs.Attempts.{dialed_key}
 use Rattle.p2p_net_links.specs.declared.links.Links.{Links}
 use Rattle.p2p_net_dialing.specs.Finishing.{said, TellsBoth, FinishesBy, FinishesOver}
 use Rattle.p2p_net_node.specs.declared.node.Node.{Node}

@@ -50,12 +50,12 @@ use Rattle.p2p_log_laws.proofs.HandedSides.{HandshakeDialed}
 use Rattle.p2p_net_queues.specs.Board.{held}
 use Rattle.p2p_net_queues.specs.Tables as table
 use Rattle.p2p_net_queues.proofs.Going.{first_left}
-use Rattle.p2p_net_listener.specs.Handshaking.{ready_over, served_by, ends_left, TurnsHandshake, LeavesHandshakes, StepsHandshake}
-use Rattle.p2p_net_listener.specs.Handshaking as listening
-use Rattle.p2p_net_listener.specs.Stands.{facts_of, IsRunning, HandshakeIs, ListenerStands}
-use Rattle.p2p_net_listener.specs.declared.handshake.HandshakeStep.TheVariants as handshake
-use Rattle.p2p_net_listener.proofs.Changes.{listener_same, listener_untouched, handshakes_stepped, listener_after_handshake}
-use Rattle.p2p_net_listener.proofs.Handshakes.{facts_after}
+use Rattle.p2p_net_gates.specs.Handshaking.{ready_over, served_by, ends_left, TurnsHandshake, LeavesHandshakes, StepsHandshake}
+use Rattle.p2p_net_gates.specs.Handshaking as listening
+use Rattle.p2p_net_gates.specs.ListenerStands.{facts_of, IsRunning, HandshakeIs, ListenerStands}
+use Rattle.p2p_net_gates.specs.declared.handshake.HandshakeStep.TheVariants as handshake
+use Rattle.p2p_net_gates.proofs.ListenerChanges.{listener_same, listener_untouched, handshakes_stepped, listener_after_handshake}
+use Rattle.p2p_net_gates.proofs.Handshakes.{facts_after}
 use Rattle.p2p_net_links.specs.Stands.{LinksStand}
 use Rattle.p2p_net_links.specs.declared.links.Links.{Links}
 use Rattle.p2p_net_connections.specs.Dialing.{IsReservedOver}

@@ -5,7 +5,7 @@ use Rattle.p2p_address.specs.declared.ip.SocketAddr.{SocketAddr}
 use Rattle.p2p_log.specs.declared.item.Item.{Item}
 use Rattle.p2p_log.specs.declared.item.Item.TheVariants as item
 use Rattle.p2p_log_rules.specs.declared.row.Row.{Row}
-use Rattle.p2p_net_listener.specs.Listening.{arrived}
+use Rattle.p2p_net_gates.specs.Listening.{arrived}
 use Rattle.p2p_net_links.specs.declared.links.Links.{Links}
 use Rattle.p2p_net_dialing.specs.Linking.{Answers, arrives, with_arrival, Arrives, opened, IsLinked}
 use Rattle.p2p_net_node.specs.Ready.{is_started}

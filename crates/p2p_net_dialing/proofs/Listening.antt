@@ -55,13 +55,13 @@ use Rattle.p2p_log_rules.proofs.Standing.{started}
 use Rattle.p2p_net_queues.specs.Board.{held}
 use Rattle.p2p_net_queues.specs.Tables as table
 use Rattle.p2p_net_queues.proofs.Going.{put_in, line-append, first_left}
-use Rattle.p2p_net_listener.specs.Listening as listening
-use Rattle.p2p_net_listener.specs.Stands.{arrival_item, IsRunning, TellsNothing, ListenerStands}
-use Rattle.p2p_net_listener.specs.declared.listening.Took.{Took}
-use Rattle.p2p_net_listener.specs.declared.listening.Took.TheVariants as takes
-use Rattle.p2p_net_listener.proofs.Changes.{listener_moved}
-use Rattle.p2p_net_listener.proofs.Leaving.{listener_tells}
-use Rattle.p2p_net_listener.proofs.Handshakes.{facts_begun, AreKept, handshakes_kept, handshakes_begun}
+use Rattle.p2p_net_gates.specs.Listening as listening
+use Rattle.p2p_net_gates.specs.ListenerStands.{arrival_item, IsRunning, TellsNothing, ListenerStands}
+use Rattle.p2p_net_gates.specs.declared.listening.Took.{Took}
+use Rattle.p2p_net_gates.specs.declared.listening.Took.TheVariants as takes
+use Rattle.p2p_net_gates.proofs.ListenerChanges.{listener_moved}
+use Rattle.p2p_net_gates.proofs.LeavingListener.{listener_tells}
+use Rattle.p2p_net_gates.proofs.Handshakes.{facts_begun, AreKept, handshakes_kept, handshakes_begun}
 use Rattle.p2p_net_tracker.specs.Dialed.{taken_names}
 use Rattle.p2p_net_tracker.specs.Stands.{is_told, HeardStands, TrackerStands}
 use Rattle.p2p_net_tracker.proofs.Changes.{told_apart, tracker_frame, kept_open}

@@ -22,9 +22,9 @@ use Rattle.p2p_log_rules.proofs.AttemptTellings.{addresses_told}
 use Rattle.p2p_log_rules.specs.Effect.{only, row}
 use Rattle.p2p_net_queues.specs.Tables as table
 use Rattle.p2p_net_queues.specs.Tables.{AreBut}
-use Rattle.p2p_net_dialer.specs.Attempts.{resolved, Resolves}
-use Rattle.p2p_net_dialer.specs.Stands.{gates_at, attempt_of, AttemptStands, DialerStands}
-use Rattle.p2p_net_dialer.specs.declared.attempt.RunningAttempt.{RunningAttempt}
+use Rattle.p2p_net_gates.specs.Attempts.{resolved, Resolves}
+use Rattle.p2p_net_gates.specs.DialerStands.{gates_at, attempt_of, AttemptStands, DialerStands}
+use Rattle.p2p_net_gates.specs.declared.attempt.RunningAttempt.{RunningAttempt}
 use Rattle.p2p_net_links.specs.Stands.{LinksStand}
 use Rattle.p2p_net_links.specs.declared.links.Links.{Links}
 use Rattle.p2p_net_node.specs.Staying.{TellsAttempt}

@@ -55,13 +55,13 @@ use Rattle.p2p_net_queues.specs.Rows.{item_ends}
 use Rattle.p2p_net_queues.specs.Tables as table
 use Rattle.p2p_net_queues.proofs.Going.{first_left}
 use Rattle.p2p_net_queues.specs.Tables.{AreBut}
-use Rattle.p2p_net_dialer.specs.Attempts.{link_at, tried, after_turn, unless_ended, Tries}
-use Rattle.p2p_net_dialer.specs.Stands.{gates_at, told_item, attempt_of, AttemptStands, DialerStands}
-use Rattle.p2p_net_dialer.specs.declared.attempt.RunningAttempt.{RunningAttempt}
-use Rattle.p2p_net_dialer.specs.declared.attempt.Tried.{Tried}
-use Rattle.p2p_net_dialer.proofs.Attempting.{attempt_changed}
-use Rattle.p2p_net_dialer.proofs.Changes.{private_is, handshake_timeout_is}
-use Rattle.p2p_net_dialer.proofs.Dropping.{attempt_end}
+use Rattle.p2p_net_gates.specs.Attempts.{link_at, tried, after_turn, unless_ended, Tries}
+use Rattle.p2p_net_gates.specs.DialerStands.{gates_at, told_item, attempt_of, AttemptStands, DialerStands}
+use Rattle.p2p_net_gates.specs.declared.attempt.RunningAttempt.{RunningAttempt}
+use Rattle.p2p_net_gates.specs.declared.attempt.Tried.{Tried}
+use Rattle.p2p_net_gates.proofs.Attempting.{attempt_changed}
+use Rattle.p2p_net_gates.proofs.DialerChanges.{private_is, handshake_timeout_is}
+use Rattle.p2p_net_gates.proofs.AttemptEnds.{attempt_end}
 use Rattle.p2p_net_links.specs.Stands.{LinksStand}
 use Rattle.p2p_net_links.specs.declared.links.Links.{Links}
 use Rattle.p2p_net_connections.specs.Dialing.{IsReservedOver}

@@ -23,16 +23,16 @@ use Rattle.p2p_net_links.specs.declared.links.Links.{Links}
 use Rattle.p2p_net_links.specs.Dropping.{end_dropped}
 use Rattle.p2p_net_links.specs.Links.{way_of}
 use Rattle.p2p_gates.specs.Handshaking.{Handshaking}
-use Rattle.p2p_net_dialer.specs.Attempts.{link_at, Tries}
-use Rattle.p2p_net_dialer.specs.Dialing as dialing
-use Rattle.p2p_net_dialer.specs.declared.attempt.Tried.{Tried}
-use Rattle.p2p_net_dialer.specs.declared.dialing.Dialed.{Dialed}
-use Rattle.p2p_net_listener.specs.Listening as listening
-use Rattle.p2p_net_listener.specs.Handshaking.{StepsHandshake}
-use Rattle.p2p_net_listener.specs.declared.handshake.HandshakeStep.{HandshakeStep}
-use Rattle.p2p_net_listener.specs.declared.handshake.HandshakeStep.TheVariants as handshake
-use Rattle.p2p_net_listener.specs.declared.listening.Took.{Took}
-use Rattle.p2p_net_listener.specs.declared.listening.Took.TheVariants as takes
+use Rattle.p2p_net_gates.specs.Attempts.{link_at, Tries}
+use Rattle.p2p_net_gates.specs.Dialing as dialing
+use Rattle.p2p_net_gates.specs.declared.attempt.Tried.{Tried}
+use Rattle.p2p_net_gates.specs.declared.dialing.Dialed.{Dialed}
+use Rattle.p2p_net_gates.specs.Listening as listening
+use Rattle.p2p_net_gates.specs.Handshaking.{StepsHandshake}
+use Rattle.p2p_net_gates.specs.declared.handshake.HandshakeStep.{HandshakeStep}
+use Rattle.p2p_net_gates.specs.declared.handshake.HandshakeStep.TheVariants as handshake
+use Rattle.p2p_net_gates.specs.declared.listening.Took.{Took}
+use Rattle.p2p_net_gates.specs.declared.listening.Took.TheVariants as takes
 use Rattle.p2p_net_tracker.specs.Dialed.{updated_row, asked_puts, names_asked, dialed_row}
 use Rattle.p2p_net_tracker.specs.Handshaking.{left_of, handshake_step_row}
 use Rattle.p2p_net_tracker.specs.declared.tracker.Tracker.{Tracker}

@@ -14,9 +14,9 @@ use Rattle.p2p_log_rules.specs.Links.{is_dialed, exchanged}
 use Rattle.p2p_net_queues.specs.Board.{held}
 use Rattle.p2p_net_queues.specs.Tables as table
 use Rattle.p2p_net_queues.specs.Tables.{AreBut}
-use Rattle.p2p_net_dialer.specs.Attempts.{dialed_key, Finishes}
+use Rattle.p2p_net_gates.specs.Attempts.{dialed_key, Finishes}
 use Rattle.p2p_net_links.specs.declared.links.Links.{Links}
-use Rattle.p2p_net_listener.specs.Handshaking.{is_accepting, finished_in}
+use Rattle.p2p_net_gates.specs.Handshaking.{is_accepting, finished_in}
 use Rattle.p2p_net_tracker.specs.Finishing.{finished_put, told_finished}
 use Rattle.p2p_net_node.specs.Staying.{TellsAttempt}
 use Rattle.p2p_net_node.specs.declared.node.Node.{Node}

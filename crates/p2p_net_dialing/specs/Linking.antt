@@ -12,8 +12,8 @@ use Rattle.p2p_log_rules.specs.declared.row.Row.{Row}
 use Rattle.p2p_net_links.specs.Links.{opened_with}
 use Rattle.p2p_net_links.specs.declared.links.Links.{Links}
 use Rattle.p2p_net_queues.specs.Tables as table
-use Rattle.p2p_net_dialer.specs.Attempts.{AnswersDial}
-use Rattle.p2p_net_listener.specs.Listening.{arrived}
+use Rattle.p2p_net_gates.specs.Attempts.{AnswersDial}
+use Rattle.p2p_net_gates.specs.Listening.{arrived}
 use Rattle.p2p_net_node.specs.Staying.{TellsAttempt}
 use Rattle.p2p_net_node.specs.Ready.{is_started}
 use Rattle.p2p_net_node.specs.declared.node.Node.{Node}

@@ -6,7 +6,7 @@ ghost use Rattle.p2p_net_dialing.specs.Dialing.{TriesAttempt, AttemptSteps};
 use crate::handing::{drop_unless, hand_on, release_of};
 use p2p_log::{Item, Queue, Side};
 use p2p_log_rules::Row;
-use p2p_net_dialer::Tried;
+use p2p_net_gates::Tried;
 use p2p_net_links::Links;
 use p2p_net_node::Node;
 use p2p_net_queues::Turn;

@@ -5,7 +5,7 @@ ghost use Rattle.p2p_net_dialing.specs.Dialing.{DialerStepsBy};
 
 use p2p_log::Reply;
 use p2p_log_rules::Row;
-use p2p_net_dialer::Dialed;
+use p2p_net_gates::Dialed;
 use p2p_net_node::Node;
 use p2p_net_queues::{Turn, only};
 use std::alloc::AllocError;

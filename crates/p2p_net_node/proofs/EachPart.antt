@@ -10,8 +10,8 @@ use Rattle.p2p_log_rules.specs.Effect.{effect}
 use Rattle.p2p_net_channels.specs.Stands.{ChannelsStand}
 use Rattle.p2p_net_connections.specs.Stands.{ConnectionsStand}
 use Rattle.p2p_net_tracker.specs.Stands.{TrackerStands}
-use Rattle.p2p_net_dialer.specs.Stands.{DialerStands}
-use Rattle.p2p_net_listener.specs.Stands.{ListenerStands}
+use Rattle.p2p_net_gates.specs.DialerStands.{DialerStands}
+use Rattle.p2p_net_gates.specs.ListenerStands.{ListenerStands}
 use Rattle.p2p_net_connections.specs.SpawnerStands.{SpawnerStands}
 use Rattle.p2p_net_node.specs.Places.{Part, router, channels, connections, tracker, dialer, listener, spawner, code, same_part, at, links, parts_of, and_links, same_place, names}
 use Rattle.p2p_net_node.specs.Stands.{RouterStands, PartStands, OwnStands, NodeStands}

@@ -27,10 +27,10 @@ use Rattle.p2p_net_tracker.specs.declared.question.Question.{Question}
 use Rattle.p2p_net_tracker.specs.declared.question.Question.TheVariants as question
 use Rattle.p2p_net_tracker.specs.Stands.{kind_of, asks_of, asks_at, is_told}
 use Rattle.p2p_net_tracker.proofs.Changes.{tracker_frame}
-use Rattle.p2p_net_dialer.specs.Stands.{is_of_dialer}
-use Rattle.p2p_net_dialer.proofs.Changes.{dialer_frame, dialer_unmoved}
-use Rattle.p2p_net_listener.proofs.Leaving.{of_listener, listener_kinds, listener_apart, listener_untold}
-use Rattle.p2p_net_listener.proofs.Changes.{listener_frame}
+use Rattle.p2p_net_gates.specs.DialerStands.{is_of_dialer}
+use Rattle.p2p_net_gates.proofs.DialerChanges.{dialer_frame, dialer_unmoved}
+use Rattle.p2p_net_gates.proofs.LeavingListener.{of_listener, listener_kinds, listener_apart, listener_untold}
+use Rattle.p2p_net_gates.proofs.ListenerChanges.{listener_frame}
 use Rattle.p2p_net_router.specs.Names.{is_routers}
 use Rattle.p2p_net_router.specs.Stands.{RoutesNothing, IsBeside}
 use Rattle.p2p_net_router.specs.declared.router.Router.{Router}

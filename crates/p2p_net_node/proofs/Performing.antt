@@ -23,8 +23,8 @@ use Rattle.p2p_log_rules.proofs.Closing.{is_closed-kept}
 use Rattle.p2p_log_rules.proofs.AttemptTellings.{attempts_of-act, tries, attempts_of-kept, asks_told}
 use Rattle.p2p_log_rules.proofs.Dialing.{dials_of-still}
 use Rattle.p2p_log_rules.proofs.Dropping.{all_of, drops_none, drops_of-send, drops_of-receive}
-use Rattle.p2p_net_dialer.proofs.Changes.{dialer_frame}
-use Rattle.p2p_net_listener.proofs.Changes.{listener_frame}
+use Rattle.p2p_net_gates.proofs.DialerChanges.{dialer_frame}
+use Rattle.p2p_net_gates.proofs.ListenerChanges.{listener_frame}
 use Rattle.p2p_log_rules.specs.Connections.{half_at, is_done, begins, is_end, ends_connection}
 use Rattle.p2p_log_rules.specs.Dropping.{half_end}
 use Rattle.p2p_log_rules.specs.Facts.{starts, registers_at, taken, item_named, with_named}
@@ -43,7 +43,7 @@ use Rattle.p2p_net_links.specs.Stands.{LinksStand}
 use Rattle.p2p_net_links.specs.declared.links.Links.{Links}
 use Rattle.p2p_net_links.proofs.Changes.{OpensNone, openings_unmoved, is_ok_reply, openings_unanswered, links_frame}
 use Rattle.p2p_net_links.proofs.Drops.{DropsNone, is_idle_reply, drops_none-act, drops_none-idle}
-use Rattle.p2p_net_listener.proofs.Handshakes.{nothing_tells}
+use Rattle.p2p_net_gates.proofs.Handshakes.{nothing_tells}
 use Rattle.p2p_net_connections.proofs.SpawnerChanges.{spawner_kept}
 use Rattle.p2p_net_node.specs.Places.{Part, router, channels, connections, tracker, dialer, listener, spawner}
 use Rattle.p2p_net_node.specs.Stands.{PartStands, NodeStands, WorldStands}

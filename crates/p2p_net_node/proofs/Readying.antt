@@ -26,7 +26,7 @@ use Rattle.p2p_net_channels.specs.Stands.{ChannelsStand}
 use Rattle.p2p_net_links.specs.declared.links.Links.{Links}
 use Rattle.p2p_net_node.specs.Places as place
 use Rattle.p2p_net_tracker.proofs.Begins.{may_take}
-use Rattle.p2p_net_listener.proofs.Changes.{place_held}
+use Rattle.p2p_net_gates.proofs.ListenerChanges.{place_held}
 use Rattle.p2p_log_rules.specs.declared.row.Opening.{Opening}
 use Rattle.p2p_net_queues.specs.Tables as table
 use Rattle.p2p_net_links.specs.Stands.{LinksStand}

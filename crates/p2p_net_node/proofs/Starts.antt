@@ -28,11 +28,11 @@ use Rattle.p2p_net_channels.specs.Channels.{no_channels}
 use Rattle.p2p_net_channels.specs.Stands.{ChannelsStand}
 use Rattle.p2p_net_connections.specs.Connections.{no_connections}
 use Rattle.p2p_net_connections.specs.Stands.{ConnectionsStand}
-use Rattle.p2p_net_dialer.specs.Dialing.{no_dialing, gates_of}
-use Rattle.p2p_net_dialer.specs.Stands.{DialerStands}
-use Rattle.p2p_net_dialer.proofs.Changes.{dialer_new}
-use Rattle.p2p_net_listener.specs.Listening.{IsNew as IsNewListening}
-use Rattle.p2p_net_listener.proofs.Changes.{listener_new}
+use Rattle.p2p_net_gates.specs.Dialing.{no_dialing, gates_of}
+use Rattle.p2p_net_gates.specs.DialerStands.{DialerStands}
+use Rattle.p2p_net_gates.proofs.DialerChanges.{dialer_new}
+use Rattle.p2p_net_gates.specs.Listening.{IsNew as IsNewListening}
+use Rattle.p2p_net_gates.proofs.ListenerChanges.{listener_new}
 use Rattle.p2p_net_tracker.specs.Begins.{IsNew}
 use Rattle.p2p_net_tracker.proofs.Begins.{tracker_new}
 use Rattle.p2p_net_queues.specs.Lines.{HoldsLines}

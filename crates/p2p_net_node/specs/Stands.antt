@@ -14,8 +14,8 @@ use Rattle.p2p_net_router.specs.declared.router.Router.{Router}
 use Rattle.p2p_net_channels.specs.Stands.{ChannelsStand}
 use Rattle.p2p_net_connections.specs.Stands.{ConnectionsStand}
 use Rattle.p2p_net_tracker.specs.Stands.{TrackerStands}
-use Rattle.p2p_net_dialer.specs.Stands.{DialerStands}
-use Rattle.p2p_net_listener.specs.Stands.{ListenerStands}
+use Rattle.p2p_net_gates.specs.DialerStands.{DialerStands}
+use Rattle.p2p_net_gates.specs.ListenerStands.{ListenerStands}
 use Rattle.p2p_net_connections.specs.SpawnerStands.{SpawnerStands}
 use Rattle.p2p_net_links.specs.Stands.{LinksStand}
 use Rattle.p2p_net_links.specs.declared.links.Links.{Links}

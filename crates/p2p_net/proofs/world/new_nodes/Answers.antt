@@ -3,8 +3,8 @@ use Rattle.std.specs.Prelude.{slice_get, Some, slice_index_or}
 use Rattle.std.proofs.lemmas.Option.{slice_get-get_or}
 use Rattle.p2p_log.specs.declared.config.Config.{Config}
 use Rattle.p2p_net_connections.specs.Connections.{no_connections}
-use Rattle.p2p_net_dialer.specs.Dialing.{gates_of}
-use Rattle.p2p_net_listener.specs.Listening.{IsNew as IsNewListening}
+use Rattle.p2p_net_gates.specs.Dialing.{gates_of}
+use Rattle.p2p_net_gates.specs.Listening.{IsNew as IsNewListening}
 use Rattle.p2p_net_connections.specs.Spawner.{no_spawning}
 use Rattle.p2p_net_tracker.specs.Begins.{IsNew}
 use Rattle.p2p_net_node.specs.Stands.{NodeStands}

@@ -3,7 +3,7 @@ use Rattle.std.specs.Prelude.{not}
 use Rattle.p2p_log.specs.declared.queue.Side.TheVariants as side
 use Rattle.p2p_log_rules.specs.declared.row.Row.{Row}
 use Rattle.p2p_log_rules.specs.Puts.{gave_up}
-use Rattle.p2p_net_dialer.specs.Attempts.{link_at}
+use Rattle.p2p_net_gates.specs.Attempts.{link_at}
 use Rattle.p2p_net_links.specs.declared.links.Links.{Links}
 use Rattle.p2p_net_queues.specs.Tables as table
 use Rattle.p2p_net_dialing.specs.Dialing.{DropsUnless}

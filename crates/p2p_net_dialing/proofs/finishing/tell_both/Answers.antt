@@ -3,7 +3,7 @@ use Rattle.std.specs.Prelude.{slice_set}
 use Rattle.std.proofs.lemmas.List.{length-set}
 use Rattle.p2p_log_rules.specs.declared.row.Row.{Row}
 use Rattle.p2p_net_queues.specs.Tables as table
-use Rattle.p2p_net_dialer.specs.Attempts.{Finishes}
+use Rattle.p2p_net_gates.specs.Attempts.{Finishes}
 use Rattle.p2p_net_node.specs.declared.node.Node.{Node}
 use Rattle.p2p_net_node.proofs.Nodes.{found}
 use Rattle.p2p_net_dialing.proofs.finishing.tell_both.Goals as goal

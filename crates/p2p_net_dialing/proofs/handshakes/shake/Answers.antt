@@ -3,9 +3,9 @@ use Rattle.p2p_base.specs.declared.key.Key.{Key}
 use Rattle.p2p_tracker_mailbox.specs.declared.mailbox.Mailbox.{Mailbox}
 use Rattle.p2p_net_tracker.specs.declared.tracker.Tracker.{Tracker}
 use Rattle.p2p_net_queues.specs.Tables as table
-use Rattle.p2p_net_listener.specs.Handshaking.{StepsHandshake}
-use Rattle.p2p_net_listener.specs.declared.handshake.HandshakeStep.{HandshakeStep}
-use Rattle.p2p_net_listener.specs.declared.handshake.HandshakeStep.TheVariants as handshake
+use Rattle.p2p_net_gates.specs.Handshaking.{StepsHandshake}
+use Rattle.p2p_net_gates.specs.declared.handshake.HandshakeStep.{HandshakeStep}
+use Rattle.p2p_net_gates.specs.declared.handshake.HandshakeStep.TheVariants as handshake
 use Rattle.p2p_net_node.specs.declared.node.Node.{Node}
 use Rattle.p2p_net_dialing.proofs.handshakes.shake.Goals as goal
 

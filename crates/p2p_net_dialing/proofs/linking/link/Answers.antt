@@ -1,7 +1,7 @@
 use Rattle.std.proofs.Common.{◌≡◌, ◌<◌, refl, sym, subst, Some}
 use Rattle.std.specs.Prelude.{slice_get, slice_set}
 use Rattle.std.proofs.lemmas.List.{length-set}
-use Rattle.p2p_net_listener.specs.declared.listening.Listening.{Listening}
+use Rattle.p2p_net_gates.specs.declared.listening.Listening.{Listening}
 use Rattle.p2p_net_dialing.specs.Linking.{IsLinked}
 use Rattle.p2p_net_node.specs.declared.node.Node.{Node}
 use Rattle.p2p_net_dialing.proofs.Linked.{linked_to_none, linked_to}

@@ -1,3 +1,0 @@
-pub mod Attempting
-pub mod Changes
-pub mod Dropping

@@ -1,3 +1,0 @@
-pub mod Handshaking
-pub mod Listening
-pub mod Stands
