@@ -1,9 +1,9 @@
-//! The tests of the program's crates and of the world, through their public names alone. They stand together so that the gate proves
-//! each of those crates once.
+//! The tests of the program's crates, of the world and of what threads share, through their public names alone. They stand together so
+//! that the gate proves each of those crates once.
 //!
 //! What scripts show stands in `tests` and `examples` at the top, so these have the rest: `command` is of the top call, over sources
 //! and sinks that fail and words that name no command; `reports` has the texts that no script reaches, `presets` the numbers that a
-//! preset stands for, and `worlds` the calls of a world.
+//! preset stands for, and `worlds` the calls of a world; `threads` is of the other command, and of the objects behind it.
 #![tactic(auto)]
 
 #[cfg(test)]
@@ -12,5 +12,7 @@ mod command;
 mod presets;
 #[cfg(test)]
 mod reports;
+#[cfg(test)]
+mod threads;
 #[cfg(test)]
 mod worlds;

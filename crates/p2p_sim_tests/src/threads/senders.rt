@@ -1,5 +1,5 @@
 //! Two senders at a mailbox of capacity 1.
-use crate::gates::Meeting;
+use crate::threads::gates::Meeting;
 use p2p_base::Mailbox;
 use p2p_threads::{MailboxCall, MailboxObject, MailboxReply, Numbered, Shared, senders};
 use std::alloc::{AllocError, Global};

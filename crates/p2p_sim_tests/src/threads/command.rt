@@ -1,5 +1,5 @@
 //! The command `threads`, through the top call.
-use crate::gates::Meeting;
+use crate::threads::gates::Meeting;
 use p2p_runtime::{MemorySink, MemorySource};
 use p2p_sim::{Status, p2p_sim};
 use std::alloc::{AllocError, Global};

@@ -1,5 +1,5 @@
 use Rattle.p2p_threads.specs.Account.{IsAlike}
-use Rattle.p2p_threads_tests.proofs.shared.adds.Given as goal
+use Rattle.p2p_sim_tests.proofs.threads.shared.adds.Given as goal
 
 abbrev pub invariant-loop-i : goal.invariant-loop-i
 invariant-loop-i g l = IsAlike l.initial.pass l.pass
