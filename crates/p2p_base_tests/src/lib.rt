@@ -2,7 +2,7 @@
 //! those crates once.
 //!
 //! Of `p2p_base` are `data`, `order` and `queues`; of `p2p_address` is `addresses`; of `p2p_runtime` are `draws`, `quotas`
-//! and `streams`; of `p2p_wire` is `frames`; of `p2p_discovery_wire` is `payloads`; and of `p2p_flow` are `peers` and `relays`.
+//! and `streams`; of `p2p_wire` is `frames`; of `p2p_discovery` is `payloads`; and of `p2p_flow` are `peers` and `relays`.
 //! `texts` has how errors and values of all of them print.
 //!
 //! A test goes once through the calls of one type, each with ample memory, and compares what they answer: a contract says of each answer

@@ -3,7 +3,7 @@
 use bytes::Bytes;
 use p2p_address::{Ingress, IpAddr, SocketAddr};
 use p2p_base::{Key, List, Text};
-use p2p_discovery_wire::{BitVec, Info, Payload, PayloadConfig, max_gossip_size, signed_bytes};
+use p2p_discovery::{BitVec, Info, Payload, PayloadConfig, max_gossip_size, signed_bytes};
 use p2p_wire::{CodecError, Data};
 use std::alloc::{AllocError, Global};
 use std::test::Fail;

@@ -1,7 +1,7 @@
 -- Infos that are looked at one after another.
 use Rattle.std.proofs.Common.{◌≡◌, ℕ, suc, ◌+◌, ◌<◌, ◌≤◌, Bool, List, ◌∷◌, length, get_or, drop, Option, Some, None, refl, sym, ap, ◌∙◌, add-one, drop-cons}
 use Rattle.std.proofs.lemmas.List.{drop_all}
-use Rattle.p2p_discovery_wire.specs.declared.info.Info.{Info}
+use Rattle.p2p_discovery.specs.declared.info.Info.{Info}
 use Rattle.p2p_discovery.specs.declared.types.error.Error.{Error}
 use Rattle.p2p_discovery.specs.Verifying.{Believed, info_fault, first_fault}
 

@@ -1,1 +1,10 @@
+mod Bits
 mod Faults
+mod Hosts
+mod Infos
+mod Ingresses
+mod Loops
+mod Narrow
+mod Parts
+mod Payloads
+mod Sizes

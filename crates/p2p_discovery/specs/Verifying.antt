@@ -1,8 +1,8 @@
 -- What is believed of where peers are dialed.
 use Rattle.std.specs.Prelude.{◌≡◌, ◌≢◌, ℕ, ◌+◌, ◌*◌, Bool, List, [], ◌∷◌, ◌++◌, length, Option, Some, None, Result, Ok, Err, nat_lt, if◌then◌else◌}
 use Rattle.std.specs.Option.{option_or}
-use Rattle.p2p_discovery_wire.specs.declared.info.Info.{Info}
-use Rattle.p2p_discovery_wire.specs.Spelling.{signed_bytes}
+use Rattle.p2p_discovery.specs.declared.info.Info.{Info}
+use Rattle.p2p_discovery.specs.Spelling.{signed_bytes}
 use Rattle.p2p_discovery.specs.declared.types.error.Error.{Error}
 use Rattle.p2p_discovery.specs.declared.types.error.Error.TheVariants.{TooManyPeers, ReceivedSelf, SynchronyBound, InvalidSignature, Memory}
 

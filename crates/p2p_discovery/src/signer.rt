@@ -1,6 +1,6 @@
 //! `Signer`, which signs as one peer.
 ghost use Rattle.std.specs.Prelude.{◌≡◌, ◌≤◌, ℕ, List as Seq, length, IfOk};
-ghost use Rattle.p2p_discovery_wire.specs.Fits.{max_signature};
+ghost use Rattle.p2p_discovery.specs.Fits.{max_signature};
 
 use p2p_base::PublicKey;
 use std::alloc::{AllocError, Global};

@@ -1,12 +1,11 @@
 //! `sign_info`, with which a peer says where it is dialed.
 ghost use Rattle.std.specs.Prelude.{◌≡◌, ◌≤◌, length, IfOk};
-ghost use Rattle.p2p_discovery_wire.specs.Spelling.{signed_bytes as bytes_signed};
+ghost use Rattle.p2p_discovery.specs.Spelling.{signed_bytes as bytes_signed};
 ghost use Rattle.p2p_discovery.specs.Verifying.{namespace_of};
 
-use crate::Signer;
+use crate::{Info, MAX_SIGNATURE, Signer, signed_bytes};
 use p2p_address::Ingress;
 use p2p_base::List;
-use p2p_discovery_wire::{Info, MAX_SIGNATURE, signed_bytes};
 use std::alloc::{AllocError, Global};
 
 /// What stands after the namespace under which an info is signed.

@@ -1,3 +1,5 @@
+mod Keeping
+mod Telling
 pub mod Known
 pub mod Placed
 pub mod Settled

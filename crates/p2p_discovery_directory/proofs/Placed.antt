@@ -9,7 +9,7 @@ use Rattle.p2p_base.specs.Sorted.{sorted_once, has_repeat, by_key}
 use Rattle.p2p_base.proofs.SortedRepeats.{has_repeat-false}
 use Rattle.p2p_address.specs.declared.peer.Address.{Address}
 use Rattle.p2p_tracker_directory.proofs.Newcomers.{sorted_once-sorted}
-use Rattle.p2p_discovery_calls.specs.AsLookup.{placed}
+use Rattle.p2p_discovery_directory.specs.AsLookup.{placed}
 
 module _ {P : Type 0} (cmp : P → P → Ordering) where
   placed_above : (p : P) (keys : List P) → AllByRecursion (λ k. cmp p k ≡ Less) keys → AllByRecursion (λ e. cmp p e.0 ≡ Less) (placed keys)

@@ -10,9 +10,9 @@ use Rattle.p2p_tracker_calls.specs.Allows as facts
 use Rattle.p2p_tracker_calls.specs.declared.call.Call.{Call as LookupCall}
 use Rattle.p2p_tracker_calls.specs.declared.call.Call.TheVariants as asked
 use Rattle.p2p_tracker_directory.specs.Stands.{Kept, StandsFor}
-use Rattle.p2p_discovery_calls.specs.declared.call.Call.{Call}
-use Rattle.p2p_discovery_calls.specs.declared.call.Call.TheVariants as call
-use Rattle.p2p_discovery_calls.specs.AsLookup.{placed, lookup_calls}
+use Rattle.p2p_discovery_directory.specs.declared.call.Call.{Call}
+use Rattle.p2p_discovery_directory.specs.declared.call.Call.TheVariants as call
+use Rattle.p2p_discovery_directory.specs.AsLookup.{placed, lookup_calls}
 use Rattle.p2p_discovery_directory.specs.Plain.{IsPlain}
 use Rattle.p2p_discovery_directory.specs.Tests.{holds, reserves}
 use Rattle.p2p_discovery_directory.proofs.Turned.{held-same, reserved-same, held-track, reserved-track, held-block, reserved-block, held-unblock, reserved-unblock, held-listen, reserved-listen, held-connect, reserved-connect, held-release, reserved-release}

@@ -16,9 +16,9 @@ use Rattle.p2p_tracker_calls.specs.Lives.{same_address, is_change, given_by, is_
 use Rattle.p2p_tracker_calls.specs.Rules.{Rules}
 use Rattle.p2p_tracker_calls.specs.Sets.{is_above, accepted_sets, only_secondary, is_tracked}
 use Rattle.p2p_tracker_directory.specs.Stands.{Kept, StandsFor}
-use Rattle.p2p_discovery_calls.specs.declared.call.Call.{Call}
-use Rattle.p2p_discovery_calls.specs.declared.call.Call.TheVariants as call
-use Rattle.p2p_discovery_calls.specs.AsLookup.{nowhere, placed, lookup_calls}
+use Rattle.p2p_discovery_directory.specs.declared.call.Call.{Call}
+use Rattle.p2p_discovery_directory.specs.declared.call.Call.TheVariants as call
+use Rattle.p2p_discovery_directory.specs.AsLookup.{nowhere, placed, lookup_calls}
 use Rattle.p2p_discovery_directory.specs.Plain.{IsPlain}
 
 -- none, or the one address that all have

@@ -1,4 +1,12 @@
+pub mod Allows
+pub mod AsLookup
+pub mod Asking
+pub mod DialList
+pub mod Gossip
+pub mod Infos
+pub mod Laws
 pub mod Plain
 pub mod Reserved
+pub mod Telling
 pub mod TestLaws
 pub mod Tests

@@ -4,8 +4,8 @@ use Rattle.std.specs.declared.cmp.Ordering.{Ordering}
 use Rattle.p2p_tracker_calls.specs.Blocks.{is_local}
 use Rattle.p2p_tracker_calls.specs.Lives.{is_stale}
 use Rattle.p2p_tracker_directory.specs.Stands.{Kept, StandsFor}
-use Rattle.p2p_discovery_calls.specs.declared.call.Call.{Call}
-use Rattle.p2p_discovery_calls.specs.AsLookup.{lookup_calls}
+use Rattle.p2p_discovery_directory.specs.declared.call.Call.{Call}
+use Rattle.p2p_discovery_directory.specs.AsLookup.{lookup_calls}
 
 pub record IsPlain {P : Type 0} (cmp : P → P → Ordering) (kept : Kept P) : Type 0 where
   pub calls : List (Call P)

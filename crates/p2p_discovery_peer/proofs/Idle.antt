@@ -12,11 +12,11 @@ use Rattle.p2p_router.specs.Connections.{relay_at}
 use Rattle.p2p_router.specs.Routes.{Routes}
 use Rattle.p2p_wire.specs.declared.encoded.EncodedData.{EncodedData}
 use Rattle.p2p_discovery_directory.specs.Reserved.{peer_of}
-use Rattle.p2p_discovery_mailbox.specs.Asking.{Way, answer_of}
-use Rattle.p2p_discovery_mailbox.specs.Telling.{frame_of_told}
-use Rattle.p2p_discovery_mailbox.specs.declared.peer.message.Message.{Message}
-use Rattle.p2p_discovery_mailbox.specs.declared.tracker.answer.Answer.{Answer}
-use Rattle.p2p_discovery_mailbox.specs.declared.tracker.answer.Answer.TheVariants as answer
+use Rattle.p2p_discovery_directory.specs.Asking.{Way, answer_of}
+use Rattle.p2p_discovery_directory.specs.Telling.{frame_of_told}
+use Rattle.p2p_discovery_directory.specs.declared.peer.message.Message.{Message}
+use Rattle.p2p_discovery_directory.specs.declared.tracker.answer.Answer.{Answer}
+use Rattle.p2p_discovery_directory.specs.declared.tracker.answer.Answer.TheVariants as answer
 use Rattle.p2p_discovery_peer.specs.Connection.{Connection}
 use Rattle.p2p_discovery_peer.specs.Ready.{is_idle, sends_at, sends_of, sends}
 use Rattle.p2p_discovery_peer.specs.Sending.{greeting_of, gathered_for, written_as, wrote, sent_as, sent_by, send_answer, send_answer_of}

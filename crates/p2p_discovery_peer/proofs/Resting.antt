@@ -11,9 +11,9 @@ use Rattle.p2p_wire.specs.declared.error.CodecError.{CodecError}
 use Rattle.p2p_wire.specs.declared.frame.Data.{Data}
 use Rattle.p2p_discovery.specs.declared.types.error.Error.{Error as Fault}
 use Rattle.p2p_discovery_directory.specs.Reserved.{peer_of}
-use Rattle.p2p_discovery_mailbox.specs.Asking.{Way}
-use Rattle.p2p_discovery_wire.specs.declared.payload.Payload.{Payload}
-use Rattle.p2p_discovery_wire.specs.declared.payload.Payload.TheVariants as payload
+use Rattle.p2p_discovery_directory.specs.Asking.{Way}
+use Rattle.p2p_discovery.specs.declared.payload.Payload.{Payload}
+use Rattle.p2p_discovery.specs.declared.payload.Payload.TheVariants as payload
 use Rattle.p2p_discovery_peer.specs.Connection.{Connection}
 use Rattle.p2p_discovery_peer.specs.Judging.{Judge}
 use Rattle.p2p_discovery_peer.specs.Ready.{is_idle, receives_held, receives_kept, receives_of, receives}

@@ -7,8 +7,8 @@ use Rattle.p2p_flow_connection.specs.Arriving.{Arrived}
 use Rattle.p2p_runtime.specs.declared.streams.Failed.{Failed}
 use Rattle.p2p_wire.specs.declared.error.CodecError.{CodecError}
 use Rattle.p2p_wire.specs.declared.frame.Data.{Data}
-use Rattle.p2p_discovery_mailbox.specs.Asking.{Way}
-use Rattle.p2p_discovery_wire.specs.declared.payload.Payload.{Payload}
+use Rattle.p2p_discovery_directory.specs.Asking.{Way}
+use Rattle.p2p_discovery.specs.declared.payload.Payload.{Payload}
 use Rattle.p2p_discovery_peer.specs.Judging.{Judge}
 use Rattle.p2p_discovery_peer.specs.Receiving.{is_running, only, with_heard, with_held, with_kept, received}
 use Rattle.p2p_discovery_peer.specs.declared.peer.gossip.Gossip.{Gossip}

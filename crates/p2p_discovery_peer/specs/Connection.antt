@@ -10,9 +10,9 @@ use Rattle.p2p_router.specs.declared.message.Message.TheVariants as router
 use Rattle.p2p_discovery_directory.specs.Reserved.{peer_of}
 use Rattle.p2p_discovery_directory.specs.declared.metadata.Metadata.{Metadata}
 use Rattle.p2p_discovery_directory.specs.declared.metadata.Metadata.TheVariants as metadata
-use Rattle.p2p_discovery_mailbox.specs.Asking.{Way, with_message}
-use Rattle.p2p_discovery_mailbox.specs.declared.peer.message.Message.{Message}
-use Rattle.p2p_discovery_mailbox.specs.declared.tracker.message.Message.TheVariants as tracker
+use Rattle.p2p_discovery_directory.specs.Asking.{Way, with_message}
+use Rattle.p2p_discovery_directory.specs.declared.peer.message.Message.{Message}
+use Rattle.p2p_discovery_directory.specs.declared.tracker.message.Message.TheVariants as tracker
 use Rattle.p2p_discovery_peer.specs.declared.peer.config.Limits.{Limits}
 use Rattle.p2p_discovery_peer.specs.declared.peer.live.Live.{Live}
 use Rattle.p2p_discovery_peer.specs.declared.peer.stepped.Stepped.{Stepped}

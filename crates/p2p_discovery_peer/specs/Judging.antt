@@ -2,7 +2,7 @@
 use Rattle.std.specs.Prelude.{ℕ, Bool, List, Option}
 use Rattle.p2p_discovery.specs.Verifying.{Believed, info_fault, infos_fault}
 use Rattle.p2p_discovery.specs.declared.types.error.Error.{Error}
-use Rattle.p2p_discovery_wire.specs.declared.info.Info.{Info}
+use Rattle.p2p_discovery.specs.declared.info.Info.{Info}
 
 -- whether two keys are one, and why an info, or one of several, isn't believed
 pub record Judge (P : Type 0) : Type 0 where

@@ -1,8 +1,8 @@
 -- What a connection ends as, where it lends its control.
 use Rattle.std.specs.Borrow.{Lends, Fml, RattleType, MutBor}
 use Rattle.p2p_base.specs.Queue.{Queue}
-use Rattle.p2p_discovery_mailbox.specs.contracts.peer.mailbox.Mailbox as mailbox
-use Rattle.p2p_discovery_mailbox.specs.declared.peer.message.Message.{Message}
+use Rattle.p2p_discovery_directory.specs.contracts.peer.mailbox.Mailbox as mailbox
+use Rattle.p2p_discovery_directory.specs.declared.peer.message.Message.{Message}
 use Rattle.p2p_discovery_peer.specs.Connection.{Connection}
 use Rattle.p2p_discovery_peer.specs.contracts.peer.actor.Actor as actor
 

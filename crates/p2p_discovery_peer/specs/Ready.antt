@@ -11,9 +11,9 @@ use Rattle.p2p_router.specs.Routes.{Routes}
 use Rattle.p2p_runtime.specs.declared.streams.Failed.{Failed}
 use Rattle.p2p_wire.specs.declared.encoded.EncodedData.{EncodedData}
 use Rattle.p2p_wire.specs.declared.frame.Data.{Data}
-use Rattle.p2p_discovery_mailbox.specs.Asking.{Way, answer_of}
-use Rattle.p2p_discovery_mailbox.specs.declared.peer.message.Message.{Message}
-use Rattle.p2p_discovery_mailbox.specs.declared.tracker.answer.Answer.{Answer}
+use Rattle.p2p_discovery_directory.specs.Asking.{Way, answer_of}
+use Rattle.p2p_discovery_directory.specs.declared.peer.message.Message.{Message}
+use Rattle.p2p_discovery_directory.specs.declared.tracker.answer.Answer.{Answer}
 use Rattle.p2p_discovery_peer.specs.Connection.{Connection}
 use Rattle.p2p_discovery_peer.specs.Receiving.{is_running, quota_of}
 use Rattle.p2p_discovery_peer.specs.Sparing.{admits, kind_of}

@@ -13,11 +13,11 @@ use Rattle.p2p_wire.specs.declared.error.CodecError.{CodecError}
 use Rattle.p2p_wire.specs.declared.frame.Data.{Data}
 use Rattle.p2p_discovery.specs.declared.types.error.Error.{Error as Fault}
 use Rattle.p2p_discovery_directory.specs.Reserved.{peer_of}
-use Rattle.p2p_discovery_mailbox.specs.Asking.{Way, with_message}
-use Rattle.p2p_discovery_mailbox.specs.declared.tracker.message.Message.TheVariants as tracker
-use Rattle.p2p_discovery_wire.specs.declared.info.Info.{Info}
-use Rattle.p2p_discovery_wire.specs.declared.payload.Payload.{Payload}
-use Rattle.p2p_discovery_wire.specs.declared.payload.Payload.TheVariants as payload
+use Rattle.p2p_discovery_directory.specs.Asking.{Way, with_message}
+use Rattle.p2p_discovery_directory.specs.declared.tracker.message.Message.TheVariants as tracker
+use Rattle.p2p_discovery.specs.declared.info.Info.{Info}
+use Rattle.p2p_discovery.specs.declared.payload.Payload.{Payload}
+use Rattle.p2p_discovery.specs.declared.payload.Payload.TheVariants as payload
 use Rattle.p2p_discovery_peer.specs.Connection.{Connection, settled, told_to_tracker}
 use Rattle.p2p_discovery_peer.specs.Judging.{Judge}
 use Rattle.p2p_discovery_peer.specs.Sparing.{admits, after_check, kind_of}

@@ -12,14 +12,14 @@ use Rattle.p2p_router.specs.Connections.{relay_at}
 use Rattle.p2p_router.specs.Routes.{Routes}
 use Rattle.p2p_wire.specs.declared.encoded.EncodedData.{EncodedData}
 use Rattle.p2p_discovery_directory.specs.Reserved.{peer_of}
-use Rattle.p2p_discovery_mailbox.specs.Asking.{Way, answer_of, without_answer}
-use Rattle.p2p_discovery_mailbox.specs.Telling.{frame_of_told}
-use Rattle.p2p_discovery_mailbox.specs.declared.peer.message.Message.{Message}
-use Rattle.p2p_discovery_mailbox.specs.declared.tracker.answer.Answer.{Answer}
-use Rattle.p2p_discovery_mailbox.specs.declared.tracker.answer.Answer.TheVariants as answer
-use Rattle.p2p_discovery_wire.specs.Spelling.{spelled}
-use Rattle.p2p_discovery_wire.specs.declared.info.Info.{Info}
-use Rattle.p2p_discovery_wire.specs.declared.payload.Payload.TheVariants as payload
+use Rattle.p2p_discovery_directory.specs.Asking.{Way, answer_of, without_answer}
+use Rattle.p2p_discovery_directory.specs.Telling.{frame_of_told}
+use Rattle.p2p_discovery_directory.specs.declared.peer.message.Message.{Message}
+use Rattle.p2p_discovery_directory.specs.declared.tracker.answer.Answer.{Answer}
+use Rattle.p2p_discovery_directory.specs.declared.tracker.answer.Answer.TheVariants as answer
+use Rattle.p2p_discovery.specs.Spelling.{spelled}
+use Rattle.p2p_discovery.specs.declared.info.Info.{Info}
+use Rattle.p2p_discovery.specs.declared.payload.Payload.TheVariants as payload
 use Rattle.p2p_discovery_peer.specs.Connection.{Connection, settled, told_to_tracker, router_after}
 use Rattle.p2p_discovery_peer.specs.declared.peer.error.Error.TheVariants as error
 use Rattle.p2p_discovery_peer.specs.declared.peer.live.Live.{Live}

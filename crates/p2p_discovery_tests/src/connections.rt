@@ -2,11 +2,10 @@
 use crate::stand::{SECOND, Stand, bit_vec, greeting, new_stand, of_three, unsigned};
 use bytes::Bytes;
 use p2p_base::Key;
-use p2p_discovery::types;
+use p2p_discovery::{Payload, types};
 use p2p_discovery_directory::Metadata;
-use p2p_discovery_mailbox::tracker::{self, Answer};
+use p2p_discovery_directory::tracker::{self, Answer};
 use p2p_discovery_peer::peer::{Error, GossipKind, Stepped};
-use p2p_discovery_wire::Payload;
 use p2p_flow_connection::{self as connection, Delivered};
 use std::alloc::{AllocError, Global};
 use std::test::Fail;

@@ -2,11 +2,10 @@
 ghost use Rattle.std.specs.Prelude.{◌≡◌};
 ghost use Rattle.p2p_discovery.specs.Verifying.{Answers, info_fault, infos_fault, first_fault};
 
-use crate::Verifier;
 use crate::signing::info_namespace;
 use crate::types::Error;
+use crate::{Info, Verifier, signed_bytes};
 use p2p_base::PublicKey;
-use p2p_discovery_wire::{Info, signed_bytes};
 use std::marker::Model;
 
 /// What tells which infos are believed: those of other peers, signed by them, of no moment too far ahead.

@@ -2,6 +2,6 @@
 pub mod error;
 pub mod info_verifier;
 
+pub use crate::{BitVec, Info, Payload, PayloadConfig};
 pub use error::Error;
 pub use info_verifier::InfoVerifier;
-pub use p2p_discovery_wire::{BitVec, Info, Payload, PayloadConfig};

@@ -2,7 +2,7 @@
 ghost use Rattle.std.specs.Prelude.{◌≡◌, ◌||◌, [], true, not, IfOk};
 ghost use Rattle.p2p_tracker_calls.specs.Rules.{rules_of};
 ghost use Rattle.p2p_tracker_directory.specs.Stands.{StandsFor};
-ghost use Rattle.p2p_discovery_calls.specs.AsLookup.{lookup_calls};
+ghost use Rattle.p2p_discovery_directory.specs.AsLookup.{lookup_calls};
 ghost use Rattle.p2p_discovery_directory.specs.Tests.{holds, reserves, knows};
 
 mod answers;

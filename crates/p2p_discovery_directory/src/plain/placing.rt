@@ -1,7 +1,7 @@
 //! The peers of a set, each at the one address that all have.
 ghost use Rattle.std.specs.Prelude.{◌≡◌, IfOk};
 ghost use Rattle.std.specs.List.Sorted.{IsStrictlySortedBy};
-ghost use Rattle.p2p_discovery_calls.specs.AsLookup.{nowhere, placed};
+ghost use Rattle.p2p_discovery_directory.specs.AsLookup.{nowhere, placed};
 
 use p2p_address::{Address, IpAddr, SocketAddr};
 use p2p_base::{Map, PublicKey, Set, SetError};

@@ -2,7 +2,7 @@
 ghost use Rattle.std.specs.Prelude.{◌≡◌, IfOk};
 
 use p2p_base::List;
-use p2p_discovery_wire::PayloadConfig;
+use p2p_discovery::PayloadConfig;
 use p2p_flow::Channel;
 use p2p_runtime::Quota;
 use std::alloc::{AllocError, Global};

@@ -3,7 +3,7 @@ ghost use Rattle.std.specs.Prelude.{◌≡◌};
 ghost use Rattle.p2p_discovery_peer.specs.Sparing.{kind_of};
 
 use p2p_base::List;
-use p2p_discovery_wire::{BitVec, Info};
+use p2p_discovery::{BitVec, Info};
 
 /// What a peer tells of where others are dialed.
 #[derive(Drop, PartialEq, Eq, Debug)]

@@ -1,13 +1,12 @@
 //! What a frame says, and why what it tells isn't believed.
 ghost use Rattle.std.specs.Prelude.{◌≡◌, IfOk};
 ghost use Rattle.p2p_discovery.specs.Verifying.{info_fault as fault_of_info, infos_fault as fault_of_infos};
-ghost use Rattle.p2p_discovery_wire.specs.Reading.{payload_of};
+ghost use Rattle.p2p_discovery.specs.Reading.{payload_of};
 
 use bytes::Bytes;
 use p2p_base::PublicKey;
-use p2p_discovery::Verifier;
 use p2p_discovery::types::{self, InfoVerifier};
-use p2p_discovery_wire::{Info, Payload, PayloadConfig};
+use p2p_discovery::{Info, Payload, PayloadConfig, Verifier};
 use p2p_wire::CodecError;
 use std::alloc::{AllocError, Global};
 

@@ -1,7 +1,7 @@
 //! `Live`, what a connection has until it ends.
 use super::{AfterFirst, Gossip};
+use p2p_discovery::Info;
 use p2p_discovery_directory::Reservation;
-use p2p_discovery_wire::Info;
 use p2p_flow_connection::Inbox;
 
 /// How far a connection is.

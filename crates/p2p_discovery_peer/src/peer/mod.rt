@@ -17,5 +17,5 @@ pub use config::{Config, Limits};
 pub use error::Error;
 pub use gossip::{Gossip, GossipKind};
 pub use live::{Live, Stage};
-pub use p2p_discovery_mailbox::peer::{Mailbox, Message};
+pub use p2p_discovery_directory::peer::{Mailbox, Message};
 pub use stepped::Stepped;

@@ -3,7 +3,7 @@ ghost use Rattle.std.specs.Prelude.{◌≡◌, ◌≤◌, ◌+◌, ◌++◌, fal
 ghost use Rattle.p2p_runtime.specs.Streams.{Rose};
 ghost use Rattle.p2p_router.specs.Connections.{relay_at};
 ghost use Rattle.p2p_discovery_directory.specs.Reserved.{peer_of};
-ghost use Rattle.p2p_discovery_mailbox.specs.Asking.{answer_of};
+ghost use Rattle.p2p_discovery_directory.specs.Asking.{answer_of};
 ghost use Rattle.p2p_discovery_peer.specs.Sending.{answered_as, wrote, sent_as, stage_answered, stage_greeted, stage_by, with_stage, way_by, greeting_of, greeted_as, sent_by, control_by, router_by, frames_in, written_in, send_fails};
 ghost use Rattle.p2p_discovery_peer.specs.declared.peer.live.Stage.TheVariants as stage;
 
@@ -12,8 +12,8 @@ use super::receiving::ended;
 use super::{Error, Limits, Mailbox, Stepped};
 use bytes::Bytes;
 use p2p_base::{List, PublicKey};
-use p2p_discovery_mailbox::tracker::{self, Answer};
-use p2p_discovery_wire::{Info, Payload};
+use p2p_discovery::{Info, Payload};
+use p2p_discovery_directory::tracker::{self, Answer};
 use p2p_flow_connection as connection;
 use p2p_peer_shared::{Gathered, gather_for, write_frames};
 use p2p_router::Actor;

@@ -4,9 +4,9 @@ use Rattle.std.proofs.lemmas.Result.{IfOk-weaker}
 use Rattle.p2p_tracker_calls.specs.Kills.{killed_keys}
 use Rattle.p2p_tracker_directory.specs.Stands.{StandsFor}
 use Rattle.p2p_tracker_directory.proofs.Exact.{both-told}
-use Rattle.p2p_discovery_calls.specs.declared.call.Call.{Call}
-use Rattle.p2p_discovery_calls.specs.declared.call.Call.TheVariants as call
-use Rattle.p2p_discovery_calls.specs.AsLookup.{lookup_calls, placed}
+use Rattle.p2p_discovery_directory.specs.declared.call.Call.{Call}
+use Rattle.p2p_discovery_directory.specs.declared.call.Call.TheVariants as call
+use Rattle.p2p_discovery_directory.specs.AsLookup.{lookup_calls, placed}
 use Rattle.p2p_discovery_directory.specs.Tests.{holds, reserves}
 use Rattle.p2p_discovery_directory.proofs.Settled.{told-track, plain-track, held-after_track, reserved-after_track}
 use Rattle.p2p_discovery_directory.proofs.plain.PlainDirectory.take_in.Goals as goal

@@ -1,6 +1,6 @@
 use Rattle.std.proofs.Common.{◌++◌, ◌∷◌, [], take, get_or, ap, sym, ◌∙◌}
 use Rattle.std.proofs.lemmas.List.{take_more, take_all, map-append}
-use Rattle.p2p_discovery_calls.specs.AsLookup.{nowhere, placed}
+use Rattle.p2p_discovery_directory.specs.AsLookup.{nowhere, placed}
 use Rattle.p2p_discovery_directory.proofs.plain.placing.pairs_of.Goals as goal
 
 pub loop-key-preserved : goal.loop-key-preserved

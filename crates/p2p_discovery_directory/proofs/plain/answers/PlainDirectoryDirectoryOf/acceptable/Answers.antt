@@ -1,7 +1,7 @@
 use Rattle.std.proofs.Common.{◌≡◌, sym, ◌∙◌, subst}
 use Rattle.p2p_tracker_directory.specs.Stands.{StandsFor}
-use Rattle.p2p_discovery_calls.specs.Allows.{is_acceptable}
-use Rattle.p2p_discovery_calls.specs.AsLookup.{lookup_calls}
+use Rattle.p2p_discovery_directory.specs.Allows.{is_acceptable}
+use Rattle.p2p_discovery_directory.specs.AsLookup.{lookup_calls}
 use Rattle.p2p_discovery_directory.proofs.Turned.{acceptable-free}
 use Rattle.p2p_discovery_directory.proofs.plain.answers.PlainDirectoryDirectoryOf.acceptable.Goals as goal
 

@@ -1,9 +1,9 @@
 use Rattle.std.proofs.Common.{◌≡◌, List, ◌∷◌, subst}
 use Rattle.std.specs.Prelude.{IfOk}
 use Rattle.p2p_tracker_directory.specs.Stands.{StandsFor}
-use Rattle.p2p_discovery_calls.specs.declared.call.Call.{Call}
-use Rattle.p2p_discovery_calls.specs.declared.call.Call.TheVariants as call
-use Rattle.p2p_discovery_calls.specs.AsLookup.{lookup_calls}
+use Rattle.p2p_discovery_directory.specs.declared.call.Call.{Call}
+use Rattle.p2p_discovery_directory.specs.declared.call.Call.TheVariants as call
+use Rattle.p2p_discovery_directory.specs.AsLookup.{lookup_calls}
 use Rattle.p2p_discovery_directory.specs.Tests.{holds, reserves}
 use Rattle.p2p_discovery_directory.proofs.Settled.{plain-block, held-after_block, reserved-after_block, told-block}
 use Rattle.p2p_discovery_directory.proofs.plain.answers.PlainDirectoryDirectoryOf.block.Goals as goal

@@ -1,7 +1,7 @@
 use Rattle.std.proofs.Common.{◌≡◌, true, ◌&&◌, not, sym, subst}
 use Rattle.std.specs.BTreeMap.{is_at}
 use Rattle.p2p_tracker_directory.specs.Stands.{StandsFor}
-use Rattle.p2p_discovery_calls.specs.AsLookup.{lookup_calls}
+use Rattle.p2p_discovery_directory.specs.AsLookup.{lookup_calls}
 use Rattle.p2p_discovery_directory.specs.Tests.{holds, reserves}
 use Rattle.p2p_discovery_directory.proofs.Settled.{as-connect, plain-connect, held-after_connect, reserved-after_connect}
 use Rattle.p2p_discovery_directory.proofs.plain.answers.PlainDirectoryDirectoryOf.connect.Goals as goal

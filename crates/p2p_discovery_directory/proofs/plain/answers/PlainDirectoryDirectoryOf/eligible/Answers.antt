@@ -2,7 +2,7 @@ use Rattle.std.proofs.Common.{◌≡◌, sym, ◌∙◌, subst}
 use Rattle.p2p_tracker_calls.specs.Lives.{is_eligible}
 use Rattle.p2p_tracker_directory.specs.Stands.{StandsFor}
 use Rattle.p2p_tracker_directory.proofs.Standing.{is_eligible-kept}
-use Rattle.p2p_discovery_calls.specs.AsLookup.{lookup_calls}
+use Rattle.p2p_discovery_directory.specs.AsLookup.{lookup_calls}
 use Rattle.p2p_discovery_directory.specs.Tests.{admits}
 use Rattle.p2p_discovery_directory.proofs.plain.answers.PlainDirectoryDirectoryOf.eligible.Goals as goal
 

@@ -1,7 +1,7 @@
 use Rattle.std.proofs.Common.{◌≡◌, sym, subst}
 use Rattle.std.proofs.lemmas.Result.{IfOk-weaker}
 use Rattle.p2p_tracker_directory.specs.Stands.{StandsFor}
-use Rattle.p2p_discovery_calls.specs.AsLookup.{lookup_calls}
+use Rattle.p2p_discovery_directory.specs.AsLookup.{lookup_calls}
 use Rattle.std.specs.Option.{option_map}
 use Rattle.p2p_tracker_calls.specs.Peers.{peers_of}
 use Rattle.p2p_tracker_calls.specs.Sets.{set_at, kept_sets}

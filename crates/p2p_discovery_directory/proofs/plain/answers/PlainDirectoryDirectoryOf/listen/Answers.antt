@@ -3,8 +3,8 @@ use Rattle.std.specs.BTreeMap.{is_at}
 use Rattle.std.specs.Prelude.{is_some}
 use Rattle.p2p_tracker_calls.specs.declared.call.Call.TheVariants as asked
 use Rattle.p2p_tracker_directory.specs.Stands.{StandsFor}
-use Rattle.p2p_discovery_calls.specs.Allows.{allows_listen}
-use Rattle.p2p_discovery_calls.specs.AsLookup.{lookup_calls}
+use Rattle.p2p_discovery_directory.specs.Allows.{allows_listen}
+use Rattle.p2p_discovery_directory.specs.AsLookup.{lookup_calls}
 use Rattle.p2p_discovery_directory.specs.Plain.{IsPlain}
 use Rattle.p2p_discovery_directory.specs.Tests.{holds, reserves}
 use Rattle.p2p_discovery_directory.proofs.Settled.{as-listen, plain-listen, held-after_listen, reserved-after_listen}

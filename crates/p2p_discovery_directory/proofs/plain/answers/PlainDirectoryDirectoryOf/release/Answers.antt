@@ -4,8 +4,8 @@ use Rattle.std.specs.Map.{lookup}
 use Rattle.p2p_tracker_directory.specs.Recorded.{is_held_or_unknown}
 use Rattle.p2p_tracker_directory.specs.Reserved.{peer_of as lookup_peer_of}
 use Rattle.p2p_tracker_directory.specs.Stands.{StandsFor}
-use Rattle.p2p_discovery_calls.specs.declared.call.Call.TheVariants as call
-use Rattle.p2p_discovery_calls.specs.AsLookup.{lookup_calls}
+use Rattle.p2p_discovery_directory.specs.declared.call.Call.TheVariants as call
+use Rattle.p2p_discovery_directory.specs.AsLookup.{lookup_calls}
 use Rattle.p2p_discovery_directory.specs.Reserved.{peer_of}
 use Rattle.p2p_discovery_directory.specs.Tests.{holds, reserves, knows}
 use Rattle.p2p_discovery_directory.proofs.Settled.{as-release, plain-release, held-after_release, reserved-after_release}

@@ -1,6 +1,6 @@
 use Rattle.std.proofs.Common.{◌≡◌, true, false, sym, subst}
 use Rattle.p2p_tracker_directory.specs.Stands.{StandsFor}
-use Rattle.p2p_discovery_calls.specs.AsLookup.{lookup_calls}
+use Rattle.p2p_discovery_directory.specs.AsLookup.{lookup_calls}
 use Rattle.p2p_discovery_directory.specs.Tests.{holds, reserves, is_due_in}
 use Rattle.p2p_discovery_directory.proofs.Settled.{as-unblock, plain-unblock, held-after_unblock, reserved-after_unblock}
 use Rattle.p2p_discovery_directory.proofs.Turned.{due-known}

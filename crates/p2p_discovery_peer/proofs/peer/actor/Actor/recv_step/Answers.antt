@@ -1,6 +1,6 @@
 use Rattle.std.proofs.Common.{ap, ◌∙◌}
 use Rattle.std.specs.Prelude.{not}
-use Rattle.p2p_discovery_wire.specs.Reading.{payload_of}
+use Rattle.p2p_discovery.specs.Reading.{payload_of}
 use Rattle.p2p_discovery_peer.specs.Connection.{Connection}
 use Rattle.p2p_discovery_peer.specs.Judging.{judge}
 use Rattle.p2p_discovery_peer.specs.Ready.{is_idle, receives}

@@ -1,5 +1,5 @@
 use Rattle.std.proofs.Common.{◌≡◌, true, arith}
-use Rattle.p2p_discovery_wire.specs.Reading.{payload_of}
+use Rattle.p2p_discovery.specs.Reading.{payload_of}
 use Rattle.p2p_discovery_peer.specs.Judging.{judge}
 use Rattle.p2p_discovery_peer.specs.Receiving.{heard_in, is_running}
 use Rattle.p2p_discovery_peer.proofs.Taking.{first-taken}

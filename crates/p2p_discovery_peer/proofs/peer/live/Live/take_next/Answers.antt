@@ -1,6 +1,6 @@
 use Rattle.std.proofs.Common.{sym, ◌∙◌}
 use Rattle.p2p_wire.specs.declared.frame.Data.{Data}
-use Rattle.p2p_discovery_wire.specs.Reading.{payload_of}
+use Rattle.p2p_discovery.specs.Reading.{payload_of}
 use Rattle.p2p_discovery_peer.specs.Judging.{judge}
 use Rattle.p2p_discovery_peer.specs.Receiving.{heard_in}
 use Rattle.p2p_discovery_peer.proofs.Taking.{none-mapped, next-taken}

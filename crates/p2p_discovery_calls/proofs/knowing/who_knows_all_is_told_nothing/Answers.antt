@@ -1,5 +1,0 @@
-use Rattle.p2p_discovery_calls.proofs.Telling.{knows-all}
-use Rattle.p2p_discovery_calls.proofs.knowing.who_knows_all_is_told_nothing.Goals as goal
-
-pub returns : goal.returns
-returns g c = knows-all g.P.Ord.cmp

@@ -1,9 +1,0 @@
-mod Parts
-mod Narrow
-mod Ingresses
-mod Hosts
-mod Bits
-mod Infos
-mod Payloads
-mod Loops
-mod Sizes

@@ -1,5 +1,0 @@
-use Rattle.std.proofs.Common.{length}
-use Rattle.p2p_discovery_wire.proofs.writing.bits.+packed_byte.Given as goal
-
-abbrev pub decreases-packed_byte : goal.decreases-packed_byte
-decreases-packed_byte l = length l.bits.now
