@@ -1,3 +1,4 @@
 mod Idle
 mod Resting
 mod Taking
+mod Worked

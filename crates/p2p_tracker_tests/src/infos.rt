@@ -40,7 +40,7 @@ impl Signer for KeySigner {
 
 // Takes every signature but an empty one.
 #[derive(Clone, Copy)]
-struct AnySignature;
+pub struct AnySignature;
 
 impl Verifier<Key> for AnySignature {
     ghost accepts = { λ verifier key namespace message signature. not (length signature == 0) };
@@ -51,14 +51,14 @@ impl Verifier<Key> for AnySignature {
 }
 
 // What a peer signs at a moment in milliseconds.
-fn signed(alloc: Global, key: u64, timestamp: u64) -> Result<Info<Key>, AllocError> {
+pub fn signed(alloc: Global, key: u64, timestamp: u64) -> Result<Info<Key>, AllocError> {
     let ip = IpAddr::V4([10, 0, 0, 1]);
     let ingress = Ingress::Socket(SocketAddr { ip, port: 3000 });
     sign_info(alloc, &KeySigner(Key(key)), b"network", ingress, timestamp)
 }
 
 // Of peer 1: at most two infos, of moments at most 5 milliseconds ahead.
-fn of_peer_one(alloc: Global) -> Result<InfoVerifier<Key>, AllocError> {
+pub fn of_peer_one(alloc: Global) -> Result<InfoVerifier<Key>, AllocError> {
     let namespace = Vec::from_slice(alloc, b"network")?;
     Ok(InfoVerifier::new(Key(1), 2, 5_000_000, namespace))
 }

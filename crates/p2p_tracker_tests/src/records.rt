@@ -1,7 +1,7 @@
-//! Records, by each of their calls.
+//! Records, by their calls that take memory, and the own one. Of the others their clauses say each answer.
 use crate::peers::{address, ip, socket};
 use p2p_address::Ingress;
-use p2p_tracker_directory::{Address, DialStatus, Record, ReserveResult};
+use p2p_tracker_directory::{Address, Record};
 
 // Whether a record's peer is in a set, whether it is to be dialed, and whether nothing needs the record.
 fn standing(record: &Record) -> [bool; 3] {
@@ -10,55 +10,6 @@ fn standing(record: &Record) -> [bool; 3] {
         record.is_outbound_target(),
         record.deletable(),
     ]
-}
-
-#[test]
-fn a_record_counts_the_sets_of_its_peer(rt: HostRuntime) {
-    let mut record = Record::known(address(7));
-    assert_eq!(rt; standing(&record), [false, false, true]);
-    record.increment_secondary();
-    assert_eq!(rt; standing(&record), [true, false, false]);
-    record.increment_primary();
-    assert_eq!(rt; standing(&record), [true, true, false]);
-    assert_eq!(rt; [record.primary_sets(), record.secondary_sets()], [1, 1]);
-    record.decrement_secondary();
-    assert_eq!(rt; [record.primary_sets(), record.secondary_sets()], [1, 0]);
-    record.decrement_primary();
-    assert_eq!(rt; standing(&record), [false, false, true]);
-}
-
-// A cooldown of 10 counts from each grant, and 3 more count for a dial.
-#[test]
-fn a_record_is_held_by_one_at_a_time(rt: HostRuntime) {
-    let mut record = Record::known(address(7));
-    record.increment_primary();
-    assert_eq!(rt; record.dialable(0, true, false), DialStatus::Now);
-    assert!(rt; record.acceptable(ip(7), false));
-    assert!(rt; !record.acceptable(ip(8), false));
-    assert!(rt; !record.is_reserved_or_connected());
-    assert_eq!(rt; record.reserve(0, 10, 3), ReserveResult::Reserved);
-    assert_eq!(rt; record.reserve(20, 10, 3), ReserveResult::Unavailable);
-    assert_eq!(rt; record.dialable(20, true, false), DialStatus::Unavailable);
-    assert!(rt; !record.acceptable(ip(7), false));
-    assert!(rt; record.is_reserved_or_connected());
-    assert!(rt; record.connect());
-    assert!(rt; !record.needs_teardown());
-    record.release();
-    assert_eq!(rt; record.dialable(12, true, false), DialStatus::After(13));
-    assert_eq!(rt; record.reserve(9, 10, 3), ReserveResult::RateLimited);
-}
-
-#[test]
-fn a_record_that_is_held_goes_stale_with_its_address(rt: HostRuntime) {
-    let mut record = Record::known(address(7));
-    record.increment_primary();
-    assert!(rt; record.update(address(8)));
-    assert!(rt; !record.update(address(8)));
-    assert_eq!(rt; record.reserve(0, 10, 3), ReserveResult::Reserved);
-    assert!(rt; !record.needs_teardown());
-    assert!(rt; record.update(address(9)));
-    assert!(rt; record.needs_teardown());
-    assert!(rt; !record.connect());
 }
 
 #[test]
