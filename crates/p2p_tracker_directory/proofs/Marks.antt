@@ -1,12 +1,13 @@
 -- What a mark passes in a list in order.
-use Rattle.std.proofs.Common.{◌≡◌, ℕ, suc, ◌+◌, ◌-◌, ◌≤◌, Bool, true, false, cond, not, List, [], ◌∷◌, ◌++◌, length, length-append, Option, refl, sym, ap, ◌∙◌, arith, subst}
+use Rattle.std.proofs.Common.{◌≡◌, ℕ, suc, ◌+◌, ◌-◌, ◌≤◌, Bool, true, false, cond, not, ◌||◌, List, [], ◌∷◌, ◌++◌, length, length-append, Option, refl, sym, ap, ◌∙◌, arith, subst}
 use Rattle.std.proofs.lemmas.Bool.{false≢true}
 use Rattle.std.proofs.lemmas.Cmp.{eq_by_cmp_equiv, alike_right, then_total, on_total}
 use Rattle.std.specs.Cmp.{IsTotalOrder}
 use Rattle.std.specs.Cmp.Lexicographic.{options_total}
+use Rattle.std.specs.List.{AllByRecursion, list_any}
 use Rattle.std.specs.List.Sorted.{IsStrictlySortedBy}
 use Rattle.std.specs.Option.{option_cmp}
-use Rattle.std.specs.Ordering.{is_eq, is_lt, is_gt, ordering_then}
+use Rattle.std.specs.Ordering.{is_eq, is_lt, is_gt, ordering_then, ordering_reverse}
 use Rattle.std.specs.BTreeMap.{is_at}
 use Rattle.std.specs.declared.cmp.Ordering.{Ordering}
 use Rattle.std.specs.declared.cmp.Ordering.TheVariants.{Less, Equal, Greater}
@@ -51,6 +52,7 @@ module _ {A K : Type 0} {pc : A → A → Ordering} {kc : K → K → Ordering} 
   falls (mark.Below p) x y e h = below-falls (options_total a) x.0 y.0 p (option_cmp pc x.0 y.0) refl (first-not (option_cmp pc x.0 y.0) (kc x.1 y.1) e) h
   falls (mark.Through p) x y e h = through-falls (options_total a) x.0 y.0 p (option_cmp pc x.0 y.0) refl (first-not (option_cmp pc x.0 y.0) (kc x.1 y.1) e) h
   falls (mark.Before p q) x y e h = below-falls (by_place-total a k) x y (p, q) Less e refl h
+  falls (mark.Upto p q) x y e h = through-falls (by_place-total a k) x y (p, q) Less e refl h
 
   module _ (m : Mark A K) (l r : List (Option A × K)) (x : Option A × K) (s : IsStrictlySortedBy (by_place pc kc) (l ++ x ∷ r)) where
     pub rank-passed : is_passed pc kc m x ≡ true → how_many (is_passed pc kc m) (l ++ x ∷ r) ≡ (length l + 1) + how_many (is_passed pc kc m) r
@@ -107,3 +109,44 @@ module _ {A K : Type 0} {pc : A → A → Ordering} (kc : K → K → Ordering) 
       at Equal false e h = absurd (false≢true e)
       at Greater true e h = absurd (false≢true (sym e))
       at Greater false e h = h
+
+module _ {A K : Type 0} {pc : A → A → Ordering} {kc : K → K → Ordering} (a : IsTotalOrder pc) (k : IsTotalOrder kc) (x : Option A × K) where
+  behind-none : (e : Option A × K) (es : List (Option A × K)) → by_place pc kc x e ≡ Equal → AllByRecursion (λ y. by_place pc kc e y ≡ Less) es
+      → how_many (is_passed pc kc (mark.Upto x.0 x.1)) es ≡ how_many (is_passed pc kc (mark.Before x.0 x.1)) es
+  unfolding how_many
+  behind-none e [] h all = refl
+  behind-none e (y ∷ ys) h all =
+      let above = (by_place-total a k).antisymm y x ∙ ap ordering_reverse ((by_place-total a k).congr x e y h ∙ all.0) in
+      at (by_place pc kc y x) above (behind-none e ys h all.1)
+    where
+      at : (r : Ordering) → r ≡ Greater → how_many (is_passed pc kc (mark.Upto x.0 x.1)) ys ≡ how_many (is_passed pc kc (mark.Before x.0 x.1)) ys
+          → cond (not (is_gt r)) (suc (how_many (is_passed pc kc (mark.Upto x.0 x.1)) ys)) (how_many (is_passed pc kc (mark.Upto x.0 x.1)) ys)
+          ≡ cond (is_lt r) (suc (how_many (is_passed pc kc (mark.Before x.0 x.1)) ys)) (how_many (is_passed pc kc (mark.Before x.0 x.1)) ys)
+      at Less e i = absurd (false≢true (ap is_gt e))
+      at Equal e i = absurd (false≢true (ap is_gt e))
+      at Greater e i = i
+
+  -- a key at its place is the one by which those up to it are more than those before it
+  pub upto-parts : (es : List (Option A × K)) → IsStrictlySortedBy (by_place pc kc) es
+      → how_many (is_passed pc kc (mark.Upto x.0 x.1)) es ≡ how_many (is_passed pc kc (mark.Before x.0 x.1)) es + cond (list_any (is_at (by_place pc kc x)) es) 1 0
+  unfolding how_many IsStrictlySortedBy
+  upto-parts [] s = omega arith
+  upto-parts (e ∷ es) s =
+      at (by_place pc kc e x) refl (is_at (by_place pc kc x) e) ((eq_by_cmp_equiv (by_place-total a k)).symm x e) (upto-parts es s.1)
+    where
+      less : (b : Bool) (n m : ℕ) → n ≡ m → suc n ≡ m + cond (true || b) 1 0
+      less b n m h = omega (arith, h)
+
+      at : (r : Ordering) → by_place pc kc e x ≡ r → (b : Bool) → b ≡ is_eq r
+          → how_many (is_passed pc kc (mark.Upto x.0 x.1)) es ≡ how_many (is_passed pc kc (mark.Before x.0 x.1)) es + cond (list_any (is_at (by_place pc kc x)) es) 1 0
+          → cond (not (is_gt r)) (suc (how_many (is_passed pc kc (mark.Upto x.0 x.1)) es)) (how_many (is_passed pc kc (mark.Upto x.0 x.1)) es)
+          ≡ cond (is_lt r) (suc (how_many (is_passed pc kc (mark.Before x.0 x.1)) es)) (how_many (is_passed pc kc (mark.Before x.0 x.1)) es)
+          + cond (b || list_any (is_at (by_place pc kc x)) es) 1 0
+      at Less h true t i = absurd (false≢true (sym t))
+      at Less h false t i = omega (arith, i)
+      at Equal h true t i =
+          less (list_any (is_at (by_place pc kc x)) es) (how_many (is_passed pc kc (mark.Upto x.0 x.1)) es) (how_many (is_passed pc kc (mark.Before x.0 x.1)) es)
+          (behind-none e es ((by_place-total a k).antisymm x e ∙ ap ordering_reverse h) s.0)
+      at Equal h false t i = absurd (false≢true t)
+      at Greater h true t i = absurd (false≢true (sym t))
+      at Greater h false t i = i

@@ -1,5 +1,5 @@
 -- What a list in order is once an entry is put in behind those before it, or taken from there.
-use Rattle.std.proofs.Common.{◌≡◌, ℕ, zero, suc, ◌+◌, Bool, true, false, cond, List, [], ◌∷◌, ◌++◌, length, length-append, take, drop, Option, Some, None, Box, refl, sym, ap, ◌∙◌, arith, subst}
+use Rattle.std.proofs.Common.{◌≡◌, ℕ, zero, suc, ◌+◌, ◌<◌, ◌≤◌, Bool, true, false, cond, List, [], ◌∷◌, ◌++◌, length, length-append, take, drop, Option, Some, None, Box, refl, sym, ap, ◌∙◌, arith, subst}
 use Rattle.std.proofs.lemmas.Bool.{false≢true}
 use Rattle.std.proofs.lemmas.List.{append_assoc, take-append-drop}
 use Rattle.std.proofs.lemmas.List.Kept.{IsStrictlySortedBy-filter}
@@ -15,7 +15,7 @@ use Rattle.p2p_tracker_calls.specs.Sets.{how_many}
 use Rattle.p2p_tracker_directory.specs.Linked.{listed}
 use Rattle.p2p_tracker_directory.specs.Placed.{finds, by_place, is_passed, without, moved}
 use Rattle.p2p_tracker_directory.specs.declared.places.mark.Mark.TheVariants as mark
-use Rattle.p2p_tracker_directory.proofs.Marks.{by_place-total}
+use Rattle.p2p_tracker_directory.proofs.Marks.{by_place-total, upto-parts}
 use Rattle.p2p_tracker_directory.proofs.Ordered.{stands-behind, put-behind, put-again, taken-behind, without-none, sorted-inserted}
 
 drop_more : {X : Type 0} (n : ℕ) (xs : List X) → drop 1 (drop n xs) ≡ drop (n + 1) xs
@@ -44,19 +44,33 @@ some-link None h = absurd (omega (arith, h))
 some-link (Some b) h = refl
 
 module _ {A K : Type 0} {pc : A → A → Ordering} {kc : K → K → Ordering} (a : IsTotalOrder pc) (k : IsTotalOrder kc) (xs : List (Option A × K)) (s : IsStrictlySortedBy (by_place pc kc) xs)
-    (p : Option A) (q : K) (n : ℕ) (rank : n ≡ how_many (is_passed pc kc (mark.Before p q)) xs) (found : Bool) (found_is : found ≡ finds (is_at (by_place pc kc (p, q))) (slice_get xs n)) where
-  pub is-there : found ≡ list_any (is_at (by_place pc kc (p, q))) xs
-  is-there = found_is ∙ (ap (λ i. finds (is_at (by_place pc kc (p, q))) (slice_get xs i)) rank ∙ stands-behind (by_place-total a k) (p, q) xs s)
+    (p : Option A) (q : K) (n : ℕ) (rank : n ≡ how_many (is_passed pc kc (mark.Before p q)) xs) (m : ℕ) (end : m ≡ how_many (is_passed pc kc (mark.Upto p q)) xs) where
+  more : m ≡ n + cond (list_any (is_at (by_place pc kc (p, q))) xs) 1 0
+  more = end ∙ (upto-parts a k (p, q) xs s ∙ ap (λ i. i + cond (list_any (is_at (by_place pc kc (p, q))) xs) 1 0) (sym rank))
 
-  pub put-found : found ≡ true → xs ≡ insert_key (by_place pc kc) xs (p, q)
-  put-found f = sym (put-again (by_place-total a k) (p, q) xs s (sym is-there ∙ f))
+  pub is-there : n < m → list_any (is_at (by_place pc kc (p, q))) xs ≡ true
+  is-there f = at (list_any (is_at (by_place pc kc (p, q))) xs) more
+    where
+      at : (b : Bool) → m ≡ n + cond b 1 0 → b ≡ true
+      at true e = refl
+      at false e = absurd (omega (arith, e, f))
 
-  pub put-new : found ≡ false → (first others one mid whole : List (Option A × K)) → first ≡ take n xs → others ≡ drop n xs → one ≡ (p, q) ∷ [] → mid ≡ first ++ one → whole ≡ mid ++ others
+  pub isnt-there : m ≤ n → list_any (is_at (by_place pc kc (p, q))) xs ≡ false
+  isnt-there f = at (list_any (is_at (by_place pc kc (p, q))) xs) more
+    where
+      at : (b : Bool) → m ≡ n + cond b 1 0 → b ≡ false
+      at true e = absurd (omega (arith, e, f))
+      at false e = refl
+
+  pub put-found : n < m → xs ≡ insert_key (by_place pc kc) xs (p, q)
+  put-found f = sym (put-again (by_place-total a k) (p, q) xs s (is-there f))
+
+  pub put-new : m ≤ n → (first others one mid whole : List (Option A × K)) → first ≡ take n xs → others ≡ drop n xs → one ≡ (p, q) ∷ [] → mid ≡ first ++ one → whole ≡ mid ++ others
       → whole ≡ insert_key (by_place pc kc) xs (p, q)
   put-new f first others one mid whole first_is others_is one_is mid_is whole_is =
       whole_is ∙ (ap (λ ys. ys ++ others) (mid_is ∙ ap (λ ys. first ++ ys) one_is) ∙ (append_assoc first ((p, q) ∷ []) others
       ∙ (ap (λ ys. ys ++ (p, q) ∷ others) first_is ∙ (ap (λ ys. take n xs ++ (p, q) ∷ ys) others_is
-      ∙ (ap (λ i. take i xs ++ (p, q) ∷ drop i xs) rank ∙ put-behind (by_place-total a k) (p, q) xs s (sym is-there ∙ f))))))
+      ∙ (ap (λ i. take i xs ++ (p, q) ∷ drop i xs) rank ∙ put-behind (by_place-total a k) (p, q) xs s (isnt-there f))))))
 
   pub put-more : (first others one mid : List (Option A × K)) → first ≡ take n xs → others ≡ drop n xs → one ≡ (p, q) ∷ [] → mid ≡ first ++ one → length mid + length others ≡ length xs + 1
   put-more first others one mid first_is others_is one_is mid_is =
@@ -69,17 +83,18 @@ module _ {A K : Type 0} {pc : A → A → Ordering} {kc : K → K → Ordering} 
       let mid_both = length-append first one in
       omega (arith, parts, both, first_long, others_long, one_long, mid_long, mid_both)
 
-  pub take-none : found ≡ false → xs ≡ without pc kc (p, q) xs
-  take-none f = sym (without-none (by_place-total a k) (p, q) xs (sym is-there ∙ f))
+  pub take-none : m ≤ n → xs ≡ without pc kc (p, q) xs
+  take-none f = sym (without-none (by_place-total a k) (p, q) xs (isnt-there f))
 
-  module _ (f : found ≡ true) (first rest one others whole : List (Option A × K)) (first_is : first ≡ take n xs) (rest_is : rest ≡ drop n xs) (one_is : one ≡ take 1 rest) (others_is : others ≡ drop 1 rest) where
+  module _ (f : n < m) (first rest one others whole : List (Option A × K)) (first_is : first ≡ take n xs) (rest_is : rest ≡ drop n xs) (one_is : one ≡ take 1 rest) (others_is : others ≡ drop 1 rest) where
     pub take-found : whole ≡ first ++ others → whole ≡ without pc kc (p, q) xs
     take-found whole_is =
         whole_is ∙ (ap (λ ys. ys ++ others) first_is ∙ (ap (λ ys. take n xs ++ ys) (others_is ∙ (ap (drop 1) rest_is ∙ drop_more n xs))
-        ∙ (ap (λ i. take i xs ++ drop (i + 1) xs) rank ∙ taken-behind (by_place-total a k) (p, q) xs s (sym is-there ∙ f))))
+        ∙ (ap (λ i. take i xs ++ drop (i + 1) xs) rank ∙ taken-behind (by_place-total a k) (p, q) xs s (is-there f))))
 
     pub take-one : length one ≡ 1
-    take-one = ap length (one_is ∙ ap (take 1) rest_is) ∙ one-taken (is_at (by_place pc kc (p, q))) n xs (sym found_is ∙ f)
+    take-one = ap length (one_is ∙ ap (take 1) rest_is) ∙ one-taken (is_at (by_place pc kc (p, q))) n xs
+        (ap (λ i. finds (is_at (by_place pc kc (p, q))) (slice_get xs i)) rank ∙ (stands-behind (by_place-total a k) (p, q) xs s ∙ is-there f))
 
     pub take-less : length first + length others + 1 ≡ length xs
     take-less =

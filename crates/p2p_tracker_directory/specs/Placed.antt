@@ -23,6 +23,7 @@ module _ {A K : Type 0} (place_cmp : A → A → Ordering) (key_cmp : K → K �
   is_passed (mark.Below p) e = is_lt (option_cmp place_cmp e.0 p)
   is_passed (mark.Through p) e = not (is_gt (option_cmp place_cmp e.0 p))
   is_passed (mark.Before p k) e = is_lt (by_place e (p, k))
+  is_passed (mark.Upto p k) e = not (is_gt (by_place e (p, k)))
 
 module _ {A K : Type 0} (place_cmp : A → A → Ordering) (key_cmp : K → K → Ordering) where
   -- the entries without one

@@ -11,6 +11,8 @@ pub(crate) enum Mark<A, K> {
     Through(Option<A>),
     // Those before a key at its place.
     Before(Option<A>, K),
+    // Those, and the key itself.
+    Upto(Option<A>, K),
 }
 
 impl<A: Ord, K: Ord> Mark<A, K> {
@@ -22,6 +24,7 @@ impl<A: Ord, K: Ord> Mark<A, K> {
             Mark::Below(place) => entry.0.cmp(place).is_lt(),
             Mark::Through(place) => entry.0.cmp(place).is_le(),
             Mark::Before(place, key) => entry.0.cmp(place).then(entry.1.cmp(key)).is_lt(),
+            Mark::Upto(place, key) => entry.0.cmp(place).then(entry.1.cmp(key)).is_le(),
         }
     }
 }

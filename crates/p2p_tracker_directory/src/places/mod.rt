@@ -6,7 +6,7 @@ ghost use Rattle.std.specs.Option.{option_cmp};
 ghost use Rattle.std.specs.BTreeMap.{is_at};
 ghost use Rattle.std.specs.BTreeSet.{insert_key};
 ghost use Rattle.p2p_tracker_calls.specs.Sets.{how_many};
-ghost use Rattle.p2p_tracker_directory.specs.Placed.{by_place, is_passed, without, moved, finds};
+ghost use Rattle.p2p_tracker_directory.specs.Placed.{by_place, is_passed, without, moved};
 ghost use Rattle.p2p_tracker_directory.specs.declared.places.mark.Mark.TheVariants as mark;
 
 mod mark;
@@ -66,13 +66,6 @@ impl<A: Ord + Copy, K: Ord + Copy> Places<A, K> {
         get(&self.root, at)
     }
 
-    // How many keys have a place below this one.
-    pub(crate) fn below(&self, place: Option<A>) -> usize
-        ensures { result ≡ how_many (is_passed A.cmp K.cmp (mark.Below place)) self.now }
-    {
-        rank(&self.root, &Mark::Below(place))
-    }
-
     // How many keys have this place, one below it, or none.
     pub(crate) fn through(&self, place: Option<A>) -> usize
         ensures rank { result ≡ how_many (is_passed A.cmp K.cmp (mark.Through place)) self.now }
@@ -93,17 +86,7 @@ impl<A: Ord + Copy, K: Ord + Copy> Places<A, K> {
     pub(crate) fn count(&self, place: Option<A>) -> usize
         ensures { result ≡ how_many (λ e. is_at (option_cmp A.cmp place) e.0) self.now }
     {
-        self.through(place) - self.below(place)
-    }
-
-    // Whether the entry is the one at this place in the order.
-    fn stands_at(&self, at: usize, place: Option<A>, key: K) -> bool
-        ensures { result ≡ finds (is_at (by_place A.cmp K.cmp (place, key))) (slice_get self.now at) }
-    {
-        match get(&self.root, at) {
-            Some(found) => place.cmp(&found.0).then(key.cmp(&found.1)).is_eq(),
-            None => false,
-        }
+        self.through(place) - rank(&self.root, &Mark::Below(place))
     }
 
     // Puts an entry in, in a node of its own, unless it is there.
@@ -113,7 +96,8 @@ impl<A: Ord + Copy, K: Ord + Copy> Places<A, K> {
         ensures { self.new ≡ insert_key (by_place A.cmp K.cmp) self.old (place, key) }
     {
         let at = rank(&self.root, &Mark::Before(place, key));
-        if self.stands_at(at, place, key) {
+        let end = rank(&self.root, &Mark::Upto(place, key));
+        if end > at {
             return;
         }
         let (first, others) = cut(self.root.take(), at);
@@ -128,7 +112,8 @@ impl<A: Ord + Copy, K: Ord + Copy> Places<A, K> {
         ensures fits { length self.old < 2 ^ 64 }
     {
         let at = rank(&self.root, &Mark::Before(place, key));
-        if !self.stands_at(at, place, key) {
+        let end = rank(&self.root, &Mark::Upto(place, key));
+        if end <= at {
             return None;
         }
         let (first, rest) = cut(self.root.take(), at);
