@@ -5,7 +5,7 @@ use Rattle.std.specs.Prelude.{is_some, nat_lt}
 use Rattle.std.specs.Option.{option_map, option_or}
 use Rattle.p2p_address.specs.declared.peer.Address.{Address as PeerAddress}
 use Rattle.p2p_tracker_directory.specs.Recorded.{Recorded, is_myself, is_inert, is_deletable, updated}
-use Rattle.p2p_tracker_directory.specs.Tracked.{counted, discounted, enrolled, retired, if_needed, needed, blanked, one_more, joined, parted, enters, leaves}
+use Rattle.p2p_tracker_directory.specs.Tracked.{counted, discounted, enrolled, retired, if_needed, needed, blanked, swept, one_more, joined, parted, enters, leaves}
 
 plus_none : (n : ℕ) → n + 0 ≡ n
 plus_none n = omega arith
@@ -89,3 +89,16 @@ leaves-both (Some r) true true = after_both (is_deletable (parted true r)) (part
 leaves-both (Some r) true false = ap if_needed (parted-primary r)
 leaves-both (Some r) false true = ap if_needed (parted-secondary r)
 leaves-both (Some r) false false = refl
+
+-- the peers of two roles are swept in either order
+pub swept-swap : (p s : Bool) (r : Option Recorded) → swept p (swept s r) ≡ swept s (swept p r)
+swept-swap true true r = refl
+swept-swap true false r = refl
+swept-swap false s r = refl
+
+-- a record that was made for a peer is swept with it
+pub swept-blanked : (p s : Bool) (r : Option Recorded) → swept p (swept s (blanked p r)) ≡ swept p (swept s r)
+swept-blanked true true None = refl
+swept-blanked true false None = refl
+swept-blanked false s None = refl
+swept-blanked p s (Some r) = refl

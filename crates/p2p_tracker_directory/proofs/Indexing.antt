@@ -18,6 +18,7 @@ use Rattle.p2p_tracker_directory.specs.Recorded.{Recorded, fresh, connected, wri
 use Rattle.p2p_tracker_directory.specs.Tracked.{nowhere, blanked}
 use Rattle.p2p_tracker_directory.specs.Indexed.{source_of, source_in, due_of, due_in, Placed, Indexes, Enters, Stays, Follows}
 use Rattle.p2p_tracker_directory.specs.declared.directory.index.Index.{Index}
+use Rattle.p2p_tracker_directory.specs.declared.record.Address.{Address}
 use Rattle.p2p_tracker_directory.specs.declared.record.Address.TheVariants as address
 use Rattle.p2p_tracker_directory.proofs.Addresses.{ip_total}
 use Rattle.p2p_tracker_directory.proofs.AddressCounts.{derived}
@@ -223,6 +224,11 @@ blank_as true (Some r) h = absurd (false≢true (sym (ap is_some (h refl))))
 blank_as false None h = refl
 blank_as false (Some r) h = refl
 
+-- a blank record has no place
+blank-source : (a : Address) → source_of (fresh a) ≡ None
+blank-source address.Myself = refl
+blank-source (address.Known a) = refl
+
 blank_kept : (b : Bool) (r : Option Recorded) → (b ≡ true → is_some r ≡ true) → r ≡ blanked b r
 blank_kept true None h = absurd (false≢true (h refl))
 blank_kept false None h = refl
@@ -233,12 +239,16 @@ module _ {P : Type 0} {cmp : P → P → Ordering} (o : IsTotalOrder cmp) (p : P
   pub none-blanked : is_some (lookup (is_at (cmp p)) es) ≡ true → (q : P) → lookup (is_at (cmp q)) es ≡ blanked (is_at (cmp p) q) (lookup (is_at (cmp q)) es)
   none-blanked h q = blank_kept (is_at (cmp p) q) (lookup (is_at (cmp q)) es) (λ e. ap is_some (sym (lookup_same o p q es e)) ∙ h)
 
+  -- one that has none gets it
+  pub made-blank : lookup (is_at (cmp p)) es ≡ None → (after : List (P × Recorded))
+      → ((q : P) → lookup (is_at (cmp q)) after ≡ cond (is_at (cmp p) q) (Some (fresh (address.Known nowhere))) (lookup (is_at (cmp q)) es))
+      → (q : P) → lookup (is_at (cmp q)) after ≡ blanked (is_at (cmp p) q) (lookup (is_at (cmp q)) es)
+  made-blank none after is q = is q ∙ sym (blank_as (is_at (cmp p) q) (lookup (is_at (cmp q)) es) (λ e. sym (lookup_same o p q es e) ∙ none))
+
   module _ (none : lookup (is_at (cmp p)) es ≡ None) (old new : Index P) (enters : Enters cmp old new p) (i : Indexes cmp old es) where
     -- the index once its record is made
-    pub still-blank : (after : List (P × Recorded)) → ((q : P) → lookup (is_at (cmp q)) after ≡ blanked (is_at (cmp p) q) (lookup (is_at (cmp q)) es)) → Indexes cmp new after
-    still-blank after is =
-        enters es after (fresh (address.Known nowhere)) none refl (λ x y. refl)
-        (λ q. is q ∙ blank_as (is_at (cmp p) q) (lookup (is_at (cmp q)) es) (λ e. sym (lookup_same o p q es e) ∙ none)) i
+    pub still-blank : (a : Address) (after : List (P × Recorded)) → ((q : P) → lookup (is_at (cmp q)) after ≡ cond (is_at (cmp p) q) (Some (fresh a)) (lookup (is_at (cmp q)) es)) → Indexes cmp new after
+    still-blank a after is = enters es after (fresh a) none (blank-source a) (λ x y. refl) is i
 
     -- and where it isn't
     pub never-blank : (last : Index P) → Follows cmp new last es p None None → Indexes cmp last es

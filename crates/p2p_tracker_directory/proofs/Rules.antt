@@ -22,9 +22,17 @@ pub err-holds : {X E : Type 0} (r : Result X E) (A : Type 0) → OnErr r A → i
 err-holds (Ok x) A a h = absurd (false≢true h)
 err-holds (Err e) A a h = a
 
+pub on-ok : {X E : Type 0} (r : Result X E) (A B : Type 0) → (A → B) → OnOk r A → OnOk r B
+on-ok (Ok x) A B f a = f a
+on-ok (Err e) A B f a = tt
+
 pub on-err : {X E : Type 0} (r : Result X E) (A : Type 0) → A → OnErr r A
 on-err (Ok x) A a = tt
 on-err (Err e) A a = a
+
+pub on-err-weaker : {X E : Type 0} (r : Result X E) (A B : Type 0) → (A → B) → OnErr r A → OnErr r B
+on-err-weaker (Ok x) A B f a = tt
+on-err-weaker (Err e) A B f a = f a
 
 -- when to ask again is told by the rules alone
 pub query-ruled : {P : Type 0} (cmp : P → P → Ordering) (es : List (P × Recorded)) (blocks : List (P × ℕ)) (t : ℕ) (records : Roster P) (private dns : Bool) → HasRules private dns records

@@ -6,19 +6,11 @@ use Rattle.std.specs.Prelude.{is_some}
 use Rattle.std.specs.Option.{option_map}
 use Rattle.std.specs.Cmp.{IsTotalOrder}
 use Rattle.std.specs.Ordering.{eq_by_cmp}
-use Rattle.std.specs.Map.{lookup}
+use Rattle.std.specs.Map.{lookup, set_value}
 use Rattle.std.specs.BTreeMap.{is_at}
 use Rattle.std.specs.declared.cmp.Ordering.{Ordering}
 use Rattle.p2p_tracker_directory.specs.Tracked.{needed, is_unneeded_in}
-use Rattle.p2p_tracker_directory.specs.Recorded.{Recorded, is_deletable, released, is_needed_in, without_need, written}
-
-not_false : (a : Bool) → not a ≡ false → a ≡ true
-not_false true e = refl
-not_false false e = sym e
-
-not_true : (a : Bool) → not a ≡ true → a ≡ false
-not_true true e = sym e
-not_true false e = refl
+use Rattle.p2p_tracker_directory.specs.Recorded.{Recorded, is_deletable, released, without_need, written}
 
 module _ {P : Type 0} {cmp : P → P → Ordering} (o : IsTotalOrder cmp) where
   -- equal keys find the same
@@ -47,31 +39,22 @@ module _ {P : Type 0} {cmp : P → P → Ordering} (o : IsTotalOrder cmp) where
           lookup-set_value {eq = eq_by_cmp cmp} (eq_by_cmp_equiv o) (is_at (cmp p)) (λ x y h. (eq_by_cmp_equiv o).congr p x y h) q (f s) es (ap is_some e)
           ∙ found (is_at (cmp p) q) f s (lookup (is_at (cmp q)) es) (λ h. sym e ∙ lookup_same p q es h)
 
-  gone : (b : Bool) (r : Option Recorded) → (b ≡ true → is_needed_in r ≡ false) → cond b None (cond b (option_map released r) r) ≡ cond b (without_need r) r
-  gone true None u = refl
-  gone true (Some s) u = sym (ap (λ x. cond x None (Some (released s))) (not_false (is_deletable (released s)) (u refl)))
-  gone false r u = refl
+  -- a record that is found, and written anew
+  pub written-found : (p : P) (es new : List (P × Recorded)) (r s : Recorded) (f : Recorded → Recorded) → Some r ≡ lookup (is_at (cmp p)) es → s ≡ f r
+      → new ≡ set_value (is_at (cmp p)) es s → new ≡ written cmp (lookup (is_at (cmp p)) es) es p f
+  written-found p es new r s f found_is s_is new_is = new_is ∙ (ap (set_value (is_at (cmp p)) es) s_is ∙ ap (λ x. written cmp x es p f) found_is)
 
-  left : (b : Bool) (r : Option Recorded) → (b ≡ true → is_needed_in r ≡ true) → cond b (option_map released r) r ≡ cond b (without_need r) r
-  left true None u = refl
-  left true (Some s) u = sym (ap (λ x. cond x None (Some (released s))) (not_true (is_deletable (released s)) (u refl)))
-  left false r u = refl
+  -- none is
+  pub written-none : (p : P) (es new : List (P × Recorded)) (f : Recorded → Recorded) → None ≡ lookup (is_at (cmp p)) es → new ≡ es → new ≡ written cmp (lookup (is_at (cmp p)) es) es p f
+  written-none p es new f none new_is = new_is ∙ ap (λ x. written cmp x es p f) none
 
-  -- a release that leaves a record which is needed
-  pub lookup-released : (p q : P) (es new : List (P × Recorded)) → new ≡ written cmp (lookup (is_at (cmp p)) es) es p released → is_needed_in (lookup (is_at (cmp p)) es) ≡ true
-      → lookup (is_at (cmp q)) new ≡ cond (is_at (cmp p) q) (without_need (lookup (is_at (cmp q)) es)) (lookup (is_at (cmp q)) es)
-  lookup-released p q es new w u =
-      ap (lookup (is_at (cmp q))) w ∙ lookup-written p q es released
-      ∙ left (is_at (cmp p) q) (lookup (is_at (cmp q)) es) (λ b. ap is_needed_in (sym (lookup_same p q es b)) ∙ u)
+  unchanged : (b : Bool) (h : Option Recorded → Option Recorded) → h None ≡ None → (r : Option Recorded) → (b ≡ true → r ≡ None) → r ≡ cond b (h r) r
+  unchanged true h n r e = e refl ∙ (sym n ∙ ap h (sym (e refl)))
+  unchanged false h n r e = refl
 
-  -- a release that leaves a record which nothing needs, and its removal
-  pub lookup-removed : (p q : P) (es mid new : List (P × Recorded)) → mid ≡ written cmp (lookup (is_at (cmp p)) es) es p released → is_needed_in (lookup (is_at (cmp p)) es) ≡ false
-      → lookup (is_at (cmp q)) new ≡ cond (is_at (cmp p) q) None (lookup (is_at (cmp q)) mid)
-      → lookup (is_at (cmp q)) new ≡ cond (is_at (cmp p) q) (without_need (lookup (is_at (cmp q)) es)) (lookup (is_at (cmp q)) es)
-  lookup-removed p q es mid new w u e =
-      e ∙ ap (λ m. cond (is_at (cmp p) q) None (lookup (is_at (cmp q)) m)) w
-      ∙ ap (cond (is_at (cmp p) q) None) (lookup-written p q es released)
-      ∙ gone (is_at (cmp p) q) (lookup (is_at (cmp q)) es) (λ b. ap is_needed_in (sym (lookup_same p q es b)) ∙ u)
+  pub none-changed : (p : P) (es new : List (P × Recorded)) (h : Option Recorded → Option Recorded) → h None ≡ None → None ≡ lookup (is_at (cmp p)) es → new ≡ es
+      → (q : P) → lookup (is_at (cmp q)) new ≡ cond (is_at (cmp p) q) (h (lookup (is_at (cmp q)) es)) (lookup (is_at (cmp q)) es)
+  none-changed p es new h n none new_is q = ap (lookup (is_at (cmp q))) new_is ∙ unchanged (is_at (cmp p) q) h n (lookup (is_at (cmp q)) es) (λ e. sym (lookup_same p q es e) ∙ sym none)
 
   forgotten : (b : Bool) (r : Option Recorded) → (b ≡ true → is_unneeded_in r ≡ true) → cond b None r ≡ cond b (needed r) r
   forgotten true None u = refl
@@ -105,3 +88,14 @@ module _ {P : Type 0} {cmp : P → P → Ordering} (o : IsTotalOrder cmp) where
   lookup-needed_written p q es mid new f w e =
       e ∙ ap (λ m. cond (is_at (cmp p) q) (needed m) m) (ap (lookup (is_at (cmp q))) w ∙ lookup-written p q es f)
       ∙ twice (is_at (cmp p) q) (option_map f (lookup (is_at (cmp q)) es)) (lookup (is_at (cmp q)) es)
+
+  -- a release, after which the record goes where nothing needs it
+  pub lookup-released : (p q : P) (es mid new : List (P × Recorded)) → mid ≡ written cmp (lookup (is_at (cmp p)) es) es p released
+      → lookup (is_at (cmp q)) new ≡ cond (is_at (cmp p) q) (needed (lookup (is_at (cmp q)) mid)) (lookup (is_at (cmp q)) mid)
+      → lookup (is_at (cmp q)) new ≡ cond (is_at (cmp p) q) (without_need (lookup (is_at (cmp q)) es)) (lookup (is_at (cmp q)) es)
+  lookup-released p q es mid new w e =
+      lookup-needed_written p q es mid new released w e ∙ ap (λ r. cond (is_at (cmp p) q) r (lookup (is_at (cmp q)) es)) (same (lookup (is_at (cmp q)) es))
+    where
+      same : (r : Option Recorded) → needed (option_map released r) ≡ without_need r
+      same None = refl
+      same (Some s) = refl

@@ -166,8 +166,3 @@ found_ingress (Some r) = ingress_in r.address
 abbrev pub is_held_or_unknown : Option Recorded → Bool
 is_held_or_unknown None = true
 is_held_or_unknown (Some r) = not (is_inert r.status)
-
--- the record that was found is needed once it is released, or none was found
-abbrev pub is_needed_in : Option Recorded → Bool
-is_needed_in None = true
-is_needed_in (Some r) = not (is_deletable (released r))

@@ -132,7 +132,8 @@ impl Record {
         Record::at(Address::Myself)
     }
 
-    fn at(address: Address) -> Record
+    // A record in no set and never granted.
+    pub(crate) fn at(address: Address) -> Record
         ensures { result ≡ fresh address }
     {
         Record {

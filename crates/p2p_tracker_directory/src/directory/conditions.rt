@@ -5,9 +5,8 @@ ghost use Rattle.std.specs.Map.{lookup, keys_of};
 ghost use Rattle.std.specs.BTreeMap.{is_at};
 ghost use Rattle.p2p_tracker_directory.specs.Recorded.{is_reserved_in, is_held_or_unknown};
 
-use crate::{Directory, Record};
+use crate::Directory;
 use p2p_base::PublicKey;
-use std::collections::BTreeMap;
 
 impl<C: PublicKey> Directory<C> {
     /// States that the records stand in the order of their keys. It does nothing.
@@ -36,11 +35,4 @@ impl<C: PublicKey> Directory<C> {
             None => true,
         }
     }
-}
-
-// States that a map's entries stand in the order of their keys. It does nothing.
-pub(super) fn in_order<C: PublicKey>(records: &BTreeMap<C, Record>)
-    ensures { IsStrictlySortedBy C.cmp (keys_of records.now.entries) }
-{
-    let _ = records.iter();
 }

@@ -25,13 +25,6 @@ pub(super) struct Index<C: PublicKey> {
     alloc: Global,
 }
 
-// Where a key stands in an index.
-#[derive(Clone, Copy)]
-pub(super) struct Spot {
-    pub(super) source: Option<IpAddr>,
-    pub(super) due: Option<u128>,
-}
-
 // The address that another peer in a set dials from.
 fn source_of(known: &Record) -> Option<IpAddr>
     ensures { result ≡ source_of known.now }
@@ -61,28 +54,6 @@ fn due_of(known: &Record, private: bool, dns: bool) -> Option<u128>
     None
 }
 
-fn due_in<C: Ord>(records: &BTreeMap<C, Record>, peer: &C, private: bool, dns: bool) -> Option<u128>
-    ensures { result ≡ due_in (lookup (is_at (C.cmp peer.now)) records.now.entries) private dns }
-{
-    match records.get(peer) {
-        Some(record) => due_of(record, private, dns),
-        None => None,
-    }
-}
-
-impl Spot {
-    // Where a key stands that has no record yet.
-    pub(super) fn blank() -> Spot
-        ensures source { result.source ≡ None }
-        ensures due { result.due ≡ None }
-    {
-        Spot {
-            source: None,
-            due: None,
-        }
-    }
-}
-
 impl<C: PublicKey> Index<C> {
     // The index of no peers.
     pub(super) fn new(alloc: Global, cfg: &Config) -> Index<C>
@@ -100,14 +71,18 @@ impl<C: PublicKey> Index<C> {
         }
     }
 
-    // Where a peer stands, as its record is now.
-    pub(super) fn spot(&self, records: &BTreeMap<C, Record>, peer: &C) -> Spot
-        ensures source { result.source ≡ source_in (lookup (is_at (C.cmp peer.now)) records.now.entries) }
-        ensures due { result.due ≡ due_in (lookup (is_at (C.cmp peer.now)) records.now.entries) self.now.private self.now.dns }
+    // From where a peer dials and when it is listed, as its record is now.
+    pub(super) fn spot(
+        &self,
+        records: &BTreeMap<C, Record>,
+        peer: &C,
+    ) -> (Option<IpAddr>, Option<u128>)
+        ensures source { result.0 ≡ source_in (lookup (is_at (C.cmp peer.now)) records.now.entries) }
+        ensures due { result.1 ≡ due_in (lookup (is_at (C.cmp peer.now)) records.now.entries) self.now.private self.now.dns }
     {
-        Spot {
-            source: source_in(records, peer),
-            due: due_in(records, peer, self.private, self.dns),
+        match records.get(peer) {
+            Some(record) => (source_of(record), due_of(record, self.private, self.dns)),
+            None => (None, None),
         }
     }
 
@@ -127,18 +102,23 @@ impl<C: PublicKey> Index<C> {
     }
 
     // Follows a change to a peer's record, or the loss of it, from where the peer stood before. It takes no memory.
-    pub(super) fn follow(&mut self, records: &BTreeMap<C, Record>, peer: &C, before: Spot)
-        ensures index { Follows C.cmp self.old self.new records.now.entries peer.now before.source before.due }
+    pub(super) fn follow(
+        &mut self,
+        records: &BTreeMap<C, Record>,
+        peer: &C,
+        before: (Option<IpAddr>, Option<u128>),
+    )
+        ensures index { Follows C.cmp self.old self.new records.now.entries peer.now before.0 before.1 }
         ensures private { self.new.private ≡ self.old.private }
         ensures dns { self.new.dns ≡ self.old.dns }
     {
         if !records.contains_key(peer) {
-            self.sources.leave(*peer, before.source);
-            self.queue.leave(*peer, before.due);
+            self.sources.leave(*peer, before.0);
+            self.queue.leave(*peer, before.1);
             return;
         }
         let after = self.spot(records, peer);
-        self.sources.shift(*peer, before.source, after.source);
-        self.queue.shift(*peer, before.due, after.due);
+        self.sources.shift(*peer, before.0, after.0);
+        self.queue.shift(*peer, before.1, after.1);
     }
 }

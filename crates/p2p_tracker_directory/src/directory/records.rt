@@ -1,20 +1,21 @@
 //! `Records`, what is kept of each peer, with an index of it.
-ghost use Rattle.std.specs.Prelude.{◌≡◌, [], true, cond, not, IfOk, OnOk, OnErr};
+ghost use Rattle.std.specs.Prelude.{◌≡◌, true, cond, not, Some, None, IfOk, OnOk, OnErr};
 ghost use Rattle.std.specs.List.Sorted.{IsStrictlySortedBy};
 ghost use Rattle.std.specs.Option.{option_copied};
 ghost use Rattle.std.specs.Map.{lookup, keys_of};
-ghost use Rattle.std.specs.BTreeMap.{is_at, insert_entry};
+ghost use Rattle.std.specs.BTreeMap.{is_at};
 ghost use Rattle.p2p_tracker_directory.specs.Recorded.{fresh, may_dial_in, may_listen_in, reserved_by, connected, updated, is_reserved_in, is_held_or_unknown, is_stale_in, differs_in, without_need, written};
 ghost use Rattle.p2p_tracker_directory.specs.Tracked.{blanked, needed, joined, leaves};
 ghost use Rattle.p2p_tracker_directory.specs.Indexed.{HasRules};
 ghost use Rattle.p2p_tracker_directory.specs.declared.record.Address.TheVariants as place;
 ghost use Rattle.p2p_tracker_directory.specs.declared.record.ReserveResult.TheVariants as reserve;
 
-use crate::Record;
-use crate::directory::conditions::in_order;
-use crate::directory::index::{Index, Spot};
-use crate::directory::{Config, changes, entries};
-use p2p_address::{Address, IpAddr};
+use crate::directory::Config;
+use crate::directory::entries::{count_less, count_more, forget};
+use crate::directory::grants::{reserve_dial, reserve_listen};
+use crate::directory::index::Index;
+use crate::{Record, record};
+use p2p_address::{Address, IpAddr, SocketAddr};
 use p2p_base::PublicKey;
 use std::alloc::{AllocError, Global};
 use std::collections::BTreeMap;
@@ -40,14 +41,15 @@ impl<C: PublicKey> Model for Records<C> {
 impl<C: PublicKey> Records<C> {
     // The record of this node itself alone.
     pub(super) fn of_local(alloc: Global, local: C, cfg: &Config) -> Result<Records<C>, AllocError>
-        ensures records { IfOk result (λ r. r.entries ≡ insert_entry C.cmp [] local (fresh place.Myself)) }
+        ensures records { IfOk result (λ r. (q : C) → lookup (is_at (C.cmp q)) r.entries ≡ cond (is_at (C.cmp local) q) (Some (fresh place.Myself)) None) }
         ensures rules { IfOk result (λ r. HasRules cfg.now.allow_private_ips cfg.now.allow_dns r) }
     {
-        let mut index = Index::new(alloc, cfg);
-        index.enter(&local)?;
-        let mut map = BTreeMap::new(alloc);
-        map.insert(local, Record::myself())?;
-        Ok(Records { map, index })
+        let mut records = Records {
+            map: BTreeMap::new(alloc),
+            index: Index::new(alloc, cfg),
+        };
+        records.insert(&local, record::Address::Myself)?;
+        Ok(records)
     }
 
     // The record of a peer.
@@ -61,7 +63,7 @@ impl<C: PublicKey> Records<C> {
     pub(super) fn stand_in_order(&self)
         ensures { IsStrictlySortedBy C.cmp (keys_of self.now.entries) }
     {
-        in_order(&self.map);
+        let _ = self.map.iter();
     }
 
     // Reserves a peer that isn't blocked, where it may be dialed. True exactly where it did.
@@ -72,7 +74,10 @@ impl<C: PublicKey> Records<C> {
         ensures rules { HasRules self.old.private self.old.dns self.new }
     {
         let before = self.index.spot(&self.map, peer);
-        let granted = changes::grant_dial(&mut self.map, cfg, peer, now, jitter);
+        let Some(record) = self.map.get_mut(peer) else {
+            return false;
+        };
+        let granted = reserve_dial(record, cfg, now, jitter);
         self.index.follow(&self.map, peer, before);
         granted
     }
@@ -92,7 +97,10 @@ impl<C: PublicKey> Records<C> {
         ensures rules { HasRules self.old.private self.old.dns self.new }
     {
         let before = self.index.spot(&self.map, peer);
-        let granted = changes::grant_listen(&mut self.map, cfg, peer, source, now, jitter);
+        let Some(record) = self.map.get_mut(peer) else {
+            return false;
+        };
+        let granted = reserve_listen(record, cfg, source, now, jitter);
         self.index.follow(&self.map, peer, before);
         granted
     }
@@ -104,7 +112,10 @@ impl<C: PublicKey> Records<C> {
         ensures after { self.new.entries ≡ written C.cmp (lookup (is_at (C.cmp peer.now)) self.old.entries) self.old.entries peer.now connected }
         ensures rules { HasRules self.old.private self.old.dns self.new }
     {
-        changes::begin(&mut self.map, peer)
+        let Some(record) = self.map.get_mut(peer) else {
+            return false;
+        };
+        record.connect()
     }
 
     // Gives a peer another address. True exactly where that changed it.
@@ -114,7 +125,10 @@ impl<C: PublicKey> Records<C> {
         ensures rules { HasRules self.old.private self.old.dns self.new }
     {
         let before = self.index.spot(&self.map, peer);
-        let changed = changes::readdress(&mut self.map, peer, address);
+        let Some(record) = self.map.get_mut(peer) else {
+            return false;
+        };
+        let changed = record.update(address);
         self.index.follow(&self.map, peer, before);
         changed
     }
@@ -127,7 +141,11 @@ impl<C: PublicKey> Records<C> {
         ensures rules { HasRules self.old.private self.old.dns self.new }
     {
         let before = self.index.spot(&self.map, peer);
-        changes::end_hold(&mut self.map, peer);
+        let Some(record) = self.map.get_mut(peer) else {
+            return;
+        };
+        record.release();
+        forget(&mut self.map, peer);
         self.index.follow(&self.map, peer, before);
     }
 
@@ -140,9 +158,23 @@ impl<C: PublicKey> Records<C> {
         if self.map.contains_key(peer) {
             return Ok(());
         }
+        let nowhere = Address::Symmetric(SocketAddr {
+            ip: IpAddr::V4([0, 0, 0, 0]),
+            port: 0,
+        });
+        self.insert(peer, record::Address::Known(nowhere))
+    }
+
+    // Makes a record for a peer that has none, in no set and never granted: so it has no place in the index yet.
+    fn insert(&mut self, peer: &C, address: record::Address) -> Result<(), AllocError>
+        requires { lookup (is_at (C.cmp peer.now)) self.old.entries ≡ None }
+        ensures made { OnOk result ((q : C) → lookup (is_at (C.cmp q)) self.new.entries ≡ cond (is_at (C.cmp peer.now) q) (Some (fresh address)) (lookup (is_at (C.cmp q)) self.old.entries)) }
+        ensures memory { OnErr result (self.new.entries ≡ self.old.entries) }
+        ensures rules { HasRules self.old.private self.old.dns self.new }
+    {
         self.index.enter(peer)?;
-        if entries::make_blank(&mut self.map, peer).is_err() {
-            self.index.follow(&self.map, peer, Spot::blank());
+        if self.map.insert(*peer, Record::at(address)).is_err() {
+            self.index.follow(&self.map, peer, (None, None));
             return Err(AllocError);
         }
         Ok(())
@@ -155,7 +187,7 @@ impl<C: PublicKey> Records<C> {
         ensures rules { HasRules self.old.private self.old.dns self.new }
     {
         let before = self.index.spot(&self.map, peer);
-        entries::forget(&mut self.map, peer);
+        forget(&mut self.map, peer);
         self.index.follow(&self.map, peer, before);
     }
 
@@ -166,7 +198,11 @@ impl<C: PublicKey> Records<C> {
         ensures rules { HasRules self.old.private self.old.dns self.new }
     {
         let before = self.index.spot(&self.map, peer);
-        entries::enter(&mut self.map, peer, address, is_primary);
+        let Some(record) = self.map.get_mut(peer) else {
+            return;
+        };
+        record.update(address);
+        count_more(record, is_primary);
         self.index.follow(&self.map, peer, before);
     }
 
@@ -176,7 +212,11 @@ impl<C: PublicKey> Records<C> {
         ensures rules { HasRules self.old.private self.old.dns self.new }
     {
         let before = self.index.spot(&self.map, peer);
-        entries::leave(&mut self.map, peer, is_primary);
+        let Some(record) = self.map.get_mut(peer) else {
+            return;
+        };
+        count_less(record, is_primary);
+        forget(&mut self.map, peer);
         self.index.follow(&self.map, peer, before);
     }
 }
