@@ -1,5 +1,5 @@
 -- What a directory is once a set was handed in.
-use Rattle.std.proofs.Common.{◌≡◌, ℕ, ◌-◌, ◌^◌, ◌<◌, ◌≤◌, Bool, true, false, cond, ◌&&◌, ◌||◌, not, List, [], ◌∷◌, ◌++◌, length, drop, Option, Some, None, refl, sym, ap, ◌∙◌, arith}
+use Rattle.std.proofs.Common.{◌≡◌, ℕ, ◌-◌, ◌^◌, ◌<◌, ◌≤◌, Bool, true, false, cond, ◌&&◌, ◌||◌, not, List, [], ◌∷◌, ◌++◌, length, drop, Option, Some, None, refl, sym, ap, ◌∙◌, arith, subst}
 use Rattle.std.proofs.lemmas.Bool.{false≢true, lt-ltb, le-ltb}
 use Rattle.std.proofs.lemmas.List.{drop_all}
 use Rattle.std.proofs.lemmas.List.Folds.{list_any-append}
@@ -7,11 +7,13 @@ use Rattle.std.proofs.lemmas.Map.Made.{is_some-lookup}
 use Rattle.std.specs.Prelude.{is_some, nat_lt}
 use Rattle.std.specs.List.{list_any, filter}
 use Rattle.std.specs.Option.{option_map, option_or, unwrap_or}
+use Rattle.std.specs.List.Sorted.{IsStrictlySortedBy}
 use Rattle.std.specs.Cmp.{IsTotalOrder}
 use Rattle.std.specs.Map.{lookup, keys_of}
 use Rattle.std.specs.BTreeMap.{is_at}
 use Rattle.std.specs.declared.cmp.Ordering.{Ordering}
 use Rattle.p2p_base.specs.Sorted.{sorted_once}
+use Rattle.p2p_base.proofs.SortedLists.{sorted-sorted_once}
 use Rattle.p2p_base.proofs.SortedRepeats.{any-sorted_once}
 use Rattle.p2p_address.specs.declared.peer.Address.{Address as PeerAddress}
 use Rattle.p2p_tracker_calls.specs.declared.call.Call.{Call}
@@ -328,3 +330,10 @@ module _ {P : Type 0} {cmp : P → P → Ordering} (o : IsTotalOrder cmp) {kept 
           ∙ (any-filter o (λ p. is_killed_where (is_at (cmp p)) kept.records primary secondary own_set fallen) q (candidates own_set fallen)
           (λ p h. sym (ap (λ t. is_killed_where t kept.records primary secondary own_set fallen) (same_test o q p h)))
           ∙ killed-fell q)))
+
+-- they stand in order
+pub killed-ordered : {P : Type 0} {cmp : P → P → Ordering} (o : IsTotalOrder cmp) (most : ℕ) (sets : List (PeerSet P)) (es : List (P × Recorded)) (primary secondary : List (P × PeerAddress))
+    (set : PeerSet P) (falls : Option (PeerSet P)) (k : List P) → falls ≡ cond (nat_lt (length sets) most) None (oldest_of set sets)
+    → k ≡ sorted_once cmp (filter (λ p. is_killed_where (is_at (cmp p)) es primary secondary set falls) (candidates set falls)) → IsStrictlySortedBy cmp k
+killed-ordered {cmp = cmp} o most sets es primary secondary set falls k falls_is k_is =
+    subst (IsStrictlySortedBy cmp) (sym k_is) (sorted-sorted_once o (filter (λ p. is_killed_where (is_at (cmp p)) es primary secondary set falls) (candidates set falls)))

@@ -2,6 +2,7 @@ pub mod Indexed
 pub mod Linked
 pub mod Listed
 pub mod Placed
+pub mod Prepared
 pub mod Recorded
 pub mod Reserved
 pub mod Stands

@@ -1,14 +1,14 @@
 //! What a peer set that is accepted does.
-ghost use Rattle.std.specs.Prelude.{◌≡◌, ◌∷◌, true, false, List, Option, is_some, IfOk, IfSome, OnOk, OnErr};
+ghost use Rattle.std.specs.Prelude.{◌≡◌, ◌∷◌, true, false, List, Option, IfOk, OnOk, OnErr};
 ghost use Rattle.std.specs.List.Sorted.{IsStrictlySortedBy};
 ghost use Rattle.std.specs.Map.{lookup, keys_of};
 ghost use Rattle.std.specs.BTreeMap.{is_at};
 ghost use Rattle.p2p_address.specs.declared.peer.Address.{Address as PeerAddress};
-ghost use Rattle.p2p_tracker_calls.specs.Sets.{PeerSet, is_above, is_among, set_of, only_secondary, accepted_sets};
-ghost use Rattle.p2p_tracker_calls.specs.Kills.{is_killed};
+ghost use Rattle.p2p_tracker_calls.specs.Sets.{PeerSet, set_of, only_secondary};
 ghost use Rattle.p2p_tracker_calls.specs.declared.call.Call.{Call};
 ghost use Rattle.p2p_tracker_calls.specs.declared.call.Call.TheVariants as call;
 ghost use Rattle.p2p_tracker_directory.specs.Indexed.{HasRules};
+ghost use Rattle.p2p_tracker_directory.specs.Prepared.{TakenIn};
 ghost use Rattle.p2p_tracker_directory.specs.Tracked.{Fell, enters, is_above_latest};
 ghost use Rattle.p2p_tracker_directory.specs.Stands.{StandsFor};
 
@@ -76,12 +76,8 @@ impl<C: PublicKey> Directory<C> {
         primary: &Map<C, Address>,
         secondary: &Map<C, Address>,
     ) -> Result<Option<Set<C>>, AllocError>
-        ensures accepted { IfOk result (λ o. (calls : List (Call C)) → StandsFor C.cmp self.old calls → is_some o ≡ is_above index (accepted_sets C.cmp calls)) }
-        ensures killed { IfOk result (λ o. IfSome o (λ k. (calls : List (Call C)) → StandsFor C.cmp self.old calls
-            → (q : C) → is_among C.cmp k q ≡ is_killed C.cmp self.old.rules index primary.now secondary.now calls q)) }
-        ensures ordered { IfOk result (λ o. IfSome o (λ k. IsStrictlySortedBy C.cmp k)) }
+        ensures taken { IfOk result (λ o. TakenIn C.cmp self.old self.new index primary.now secondary.now o) }
         ensures rules { self.new.rules ≡ self.old.rules }
-        ensures stands { IfOk result (λ o. (calls : List (Call C)) → StandsFor C.cmp self.old calls → StandsFor C.cmp self.new (call.Track index primary.now secondary.now ∷ calls)) }
         ensures memory { OnErr result ((calls : List (Call C)) → StandsFor C.cmp self.old calls → StandsFor C.cmp self.new calls) }
     {
         if !self.is_next(index) {

@@ -1,15 +1,30 @@
 //! A peer set that is handed in, made ready to be kept.
-ghost use Rattle.std.specs.Prelude.{◌≡◌, IfOk};
+ghost use Rattle.std.specs.Prelude.{◌≡◌, ◌++◌, ◌∷◌, [], IfOk, OnOk};
 ghost use Rattle.std.specs.List.{list_any};
 ghost use Rattle.std.specs.List.Sorted.{IsStrictlySortedBy};
 ghost use Rattle.std.specs.Map.{keys_of};
 ghost use Rattle.std.specs.BTreeMap.{is_at};
-ghost use Rattle.p2p_tracker_calls.specs.Sets.{only_secondary, set_of};
+ghost use Rattle.p2p_tracker_calls.specs.Sets.{only_secondary};
+ghost use Rattle.p2p_tracker_directory.specs.Prepared.{Prepared};
 
 use crate::directory::sets::TrackedSet;
 use p2p_address::Address;
 use p2p_base::{Map, PublicKey, Set};
 use std::alloc::{AllocError, Global};
+
+// Adds a copy of a peer and its address to a list.
+fn add_copy<C: PublicKey>(
+    copies: &mut Vec<(C, Address)>,
+    alloc: Global,
+    key: &C,
+    address: &Address,
+) -> Result<(), AllocError>
+    ensures { OnOk result (copies.new.items ≡ copies.old.items ++ (key.now, address.now) ∷ []) }
+{
+    let copy = address.try_clone(alloc)?;
+    copies.push((*key, copy))?;
+    Ok(())
+}
 
 // The peers of a map with their addresses.
 pub(super) fn copy_peers<C: PublicKey>(
@@ -21,7 +36,7 @@ pub(super) fn copy_peers<C: PublicKey>(
 {
     let mut copies = Vec::with_capacity(alloc, peers.len())?;
     for (key, address) in peers.keys().iter().zip(peers.values()) {
-        copies.push((*key, address.try_clone(alloc)?))?;
+        add_copy(&mut copies, alloc, key, address)?;
     }
     Ok(copies)
 }
@@ -60,6 +75,26 @@ pub(super) fn key_set<C: PublicKey>(
     Set::from_iter_dedup(keys)
 }
 
+// The peer set of an index, of peers of each role that stand in order.
+fn set_of<C: PublicKey>(
+    alloc: Global,
+    index: u64,
+    primary: &[(C, Address)],
+    secondary: &[(C, Address)],
+) -> Result<TrackedSet<C>, AllocError>
+    requires primary { IsStrictlySortedBy C.cmp (keys_of primary.now) }
+    requires secondary { IsStrictlySortedBy C.cmp (keys_of secondary.now) }
+    ensures { IfOk result (λ s. s ≡ record { index = index; primary = keys_of primary.now; secondary = keys_of secondary.now }) }
+{
+    let primary = key_set(alloc, primary)?;
+    let secondary = key_set(alloc, secondary)?;
+    Ok(TrackedSet {
+        index,
+        primary,
+        secondary,
+    })
+}
+
 // A peer set that is handed in, and its peers of each role with their addresses. No peer has both roles.
 #[derive(Drop)]
 pub(super) struct Newcomers<C: PublicKey> {
@@ -75,20 +110,12 @@ pub(super) fn prepare<C: PublicKey>(
     primary: &Map<C, Address>,
     secondary: &Map<C, Address>,
 ) -> Result<Newcomers<C>, AllocError>
-    ensures set { IfOk result (λ n. n.set ≡ set_of C.cmp index primary.now secondary.now) }
-    ensures primary { IfOk result (λ n. n.primary.items ≡ primary.now) }
-    ensures secondary { IfOk result (λ n. n.secondary.items ≡ only_secondary C.cmp primary.now secondary.now) }
-    ensures primary_ordered { IfOk result (λ n. IsStrictlySortedBy C.cmp (keys_of n.primary.items)) }
-    ensures secondary_ordered { IfOk result (λ n. IsStrictlySortedBy C.cmp (keys_of n.secondary.items)) }
+    ensures { IfOk result (λ n. Prepared C.cmp index primary.now secondary.now n) }
 {
     let first = copy_peers(alloc, primary)?;
     let mut second = copy_peers(alloc, secondary)?;
     without_primary(primary, &mut second);
-    let set = TrackedSet {
-        index,
-        primary: key_set(alloc, first.as_slice())?,
-        secondary: key_set(alloc, second.as_slice())?,
-    };
+    let set = set_of(alloc, index, first.as_slice(), second.as_slice())?;
     Ok(Newcomers {
         set,
         primary: first,
