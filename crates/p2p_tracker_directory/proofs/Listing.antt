@@ -1,5 +1,5 @@
 -- Who stands in what a directory lists, as the calls tell.
-use Rattle.std.proofs.Common.{◌≡◌, ℕ, Bool, true, false, cond, ◌&&◌, ◌||◌, not, List, Option, Some, None, refl, sym, ap, ◌∙◌}
+use Rattle.std.proofs.Common.{◌≡◌, ℕ, Bool, true, false, cond, ◌&&◌, ◌||◌, not, List, [], ◌∷◌, Option, Some, None, refl, sym, ap, ◌∙◌}
 use Rattle.std.proofs.lemmas.Bool.{false≢true}
 use Rattle.std.specs.Prelude.{is_some, nat_lt}
 use Rattle.std.specs.List.{filter}
@@ -11,7 +11,8 @@ use Rattle.std.specs.declared.cmp.Ordering.{Ordering}
 use Rattle.p2p_base.specs.Sorted.{sorted_once}
 use Rattle.p2p_address.specs.declared.peer.Address.{Address as PeerAddress}
 use Rattle.p2p_tracker_calls.specs.declared.call.Call.{Call}
-use Rattle.p2p_tracker_calls.specs.Sets.{is_among, is_tracked, is_primary, primary_sets, secondary_sets}
+use Rattle.p2p_tracker_calls.specs.Sets.{PeerSet, latest_index, is_among, is_tracked, is_primary, primary_sets, secondary_sets}
+use Rattle.p2p_tracker_calls.specs.Peers.{newest_of}
 use Rattle.p2p_tracker_calls.specs.Grants.{Grant, is_held}
 use Rattle.p2p_tracker_calls.specs.Blocks.{is_local, lasts_at, is_blocked}
 use Rattle.p2p_tracker_calls.specs.Lives.{address_of, last_grant, is_stale, is_connected}
@@ -84,3 +85,8 @@ module _ {P : Type 0} {cmp : P → P → Ordering} (o : IsTotalOrder cmp) {kept 
   blocked-kept k q t e =
       among-kept o (λ p end. nat_lt t end) q kept.blocks k s.ordered (λ p end h. refl) e
       ∙ (ap (passes (λ end. nat_lt t end)) (s.blocks q) ∙ passes-lasts t _)
+
+-- the newest set's index
+pub newest-index : {P : Type 0} (sets : List (PeerSet P)) (x : PeerSet P) → Some x ≡ newest_of sets → Some x.index ≡ latest_index sets
+newest-index {P} [] x h = absurd (false≢true (sym (ap is_some h)))
+newest-index {P} (y ∷ ys) x h = ap (option_map (λ (s : PeerSet P). s.index)) h

@@ -10,7 +10,6 @@ ghost use Rattle.p2p_tracker_calls.specs.DialList.{earlier, earliest};
 use crate::directory::Config;
 use crate::directory::blocks::is_after;
 use crate::directory::due::{due_peers, next_due, next_unblock};
-use crate::directory::once::each_once;
 use crate::directory::records::Records;
 use crate::{DialStatus, Record};
 use p2p_base::{List, PrioritySet, PublicKey};
@@ -97,9 +96,10 @@ pub(super) fn dialable_peers<C: PublicKey>(
     ensures ordered { IsStrictlySortedBy C.cmp (keys_of records.now.entries) }
 {
     records.stand_in_order();
-    let found = due_peers(alloc, &records.index.queue, &records.map, blocks, cfg, now)?;
-    let listed = each_once(found)?;
-    Ok(listed)
+    let mut found = due_peers(alloc, &records.index.queue, &records.map, blocks, cfg, now)?;
+    found.sort()?;
+    found.dedup();
+    Ok(found)
 }
 
 // The first moment at which a peer may be dialed that may not be now.

@@ -96,6 +96,13 @@ impl<C: PublicKey> Directory<C> {
         ensures exactly { (calls : List (Call C)) → StandsFor C.cmp self.now calls
             → result ≡ option_map (λ s. s.index) (slice_get (kept_sets C.cmp self.now.rules calls) place) }
     {
+        self.index_at(place)
+    }
+
+    // The same by what is kept.
+    fn index_at(&self, place: usize) -> Option<u64>
+        ensures { result ≡ option_map (λ s. s.index) (slice_get self.now.sets place) }
+    {
         match self.sets.get(place) {
             Some(set) => Some(set.index),
             None => None,

@@ -3,7 +3,7 @@ ghost use Rattle.std.specs.Prelude.{◌≡◌, ℕ, ◌+◌, ◌&&◌, [], ◌�
 ghost use Rattle.std.specs.Map.{lookup, keys_of};
 ghost use Rattle.std.specs.BTreeMap.{is_at};
 ghost use Rattle.p2p_tracker_calls.specs.Allows.{is_acceptable, allows_dial, allows_listen};
-ghost use Rattle.p2p_tracker_calls.specs.Blocks.{is_local, is_blockable, is_blocked, lasts_at, is_over, block_of};
+ghost use Rattle.p2p_tracker_calls.specs.Blocks.{is_blockable, is_blocked, lasts_at, is_over, block_of};
 ghost use Rattle.p2p_tracker_calls.specs.Lives.{address_of, is_eligible, is_stale, is_overwritten};
 ghost use Rattle.p2p_tracker_calls.specs.Kills.{is_killed, killed_keys};
 ghost use Rattle.p2p_tracker_calls.specs.Named.{EqualKeysAreOne};
@@ -21,7 +21,7 @@ ghost use Rattle.std.specs.List.Sorted.{IsStrictlySortedBy};
 ghost use Rattle.p2p_tracker_calls.specs.Sets.{is_above, is_among, accepted_sets, kept_sets, latest_index, set_at, is_tracked, is_primary};
 ghost use Rattle.p2p_tracker_calls.specs.declared.call.Call.{Call};
 ghost use Rattle.p2p_tracker_calls.specs.declared.call.Call.TheVariants as call;
-ghost use Rattle.p2p_tracker_directory.specs.Recorded.{is_eligible_in, is_acceptable_in, is_reserved_in, is_held_or_unknown, found_ingress};
+ghost use Rattle.p2p_tracker_directory.specs.Recorded.{is_reserved_in, is_held_or_unknown, found_ingress};
 ghost use Rattle.p2p_tracker_directory.specs.Stands.{StandsFor};
 ghost use Rattle.p2p_tracker_directory.specs.Reserved.{peer_of};
 ghost use Rattle.p2p_tracker_directory.specs.declared.metadata.Metadata.TheVariants as side;
@@ -30,7 +30,6 @@ ghost use Rattle.std.specs.Option.{option_map};
 
 mod acceptance;
 mod blocks;
-mod changes;
 mod conditions;
 mod counted;
 mod dials;
@@ -44,7 +43,6 @@ mod known;
 mod listens;
 mod lists;
 mod newcomers;
-mod once;
 mod records;
 mod sets;
 mod tallies;
@@ -305,12 +303,6 @@ impl<C: PublicKey> Directory<C> {
         if self.is_blocked(peer, now) {
             return false;
         }
-        self.has_eligible(peer)
-    }
-
-    fn has_eligible(&self, peer: &C) -> bool
-        ensures { result ≡ is_eligible_in (lookup (is_at (C.cmp peer.now)) self.now.records) }
-    {
         match self.records.get(peer) {
             Some(record) => record.eligible(),
             None => false,
@@ -325,12 +317,6 @@ impl<C: PublicKey> Directory<C> {
         if self.is_blocked(peer, now) {
             return false;
         }
-        self.has_acceptable(peer, source)
-    }
-
-    fn has_acceptable(&self, peer: &C, source: IpAddr) -> bool
-        ensures { result ≡ is_acceptable_in (lookup (is_at (C.cmp peer.now)) self.now.records) source self.now.rules.bypass }
-    {
         match self.records.get(peer) {
             Some(record) => record.acceptable(source, self.cfg.bypass_ip_check),
             None => false,
@@ -450,7 +436,7 @@ impl<C: PublicKey> Directory<C> {
         ensures stands { IfOk result (λ b. (calls : List (Call C)) → StandsFor C.cmp self.old calls → StandsFor C.cmp self.new (call.Block peer.now now ∷ calls)) }
         ensures memory { OnErr result (self.new ≡ self.old) }
     {
-        if self.is_local(peer) {
+        if self.is_own(peer) {
             return Ok(false);
         }
         if self.is_blocked(peer, now) {
@@ -471,12 +457,6 @@ impl<C: PublicKey> Directory<C> {
         ensures stands { (calls : List (Call C)) → StandsFor C.cmp self.old calls → StandsFor C.cmp self.new (call.UnblockExpired now ∷ calls) }
     {
         take_ended(&mut self.blocks, now)
-    }
-
-    fn is_local(&self, peer: &C) -> bool
-        ensures { result ≡ is_local C.cmp self.now.rules peer.now }
-    {
-        self.local.cmp(peer).is_eq()
     }
 
     // When a block ends that begins at `now`.

@@ -1,9 +1,23 @@
-use Rattle.std.proofs.Common.{sym, ◌∙◌}
+use Rattle.std.proofs.Common.{Option, sym, ap, ◌∙◌}
+use Rattle.std.specs.Option.{option_copied}
+use Rattle.std.specs.Map.{lookup}
+use Rattle.std.specs.BTreeMap.{is_at}
+use Rattle.p2p_tracker_directory.specs.Recorded.{Recorded, is_acceptable_in}
+use Rattle.p2p_tracker_directory.specs.Stands.{Kept}
 use Rattle.p2p_tracker_directory.proofs.Asked.{acceptable-barred, acceptable-free}
 use Rattle.p2p_tracker_directory.proofs.directory.Directory.acceptable.Goals as goal
 
 pub returns-then-is_blocked : goal.returns-then-is_blocked
 returns-then-is_blocked g c = λ calls s. acceptable-barred g.met.C.Ord.total s c.args.peer.now c.args.source c.args.now (sym c.is_blocked.ensures ∙ c.if-is_blocked.true)
 
-pub returns : goal.returns
-returns g c = λ calls s. c.has_acceptable.ensures ∙ acceptable-free g.met.C.Ord.total s c.args.peer.now c.args.source c.args.now (sym c.is_blocked.ensures ∙ c.if-is_blocked.false)
+pub returns-in-Some : goal.returns-in-Some
+returns-in-Some g c = λ calls s.
+    c.acceptable.ensures ∙ (ap (λ (r : Option Recorded). is_acceptable_in r c.args.source c.self.inside.cfg.bypass_ip_check) (ap option_copied (sym c.in-Some.is) ∙ c.get.ensures)
+    ∙ (ap (λ (k : Kept g.row.C.Denot). is_acceptable_in (lookup (is_at (g.C.Ord.cmp c.args.peer.now)) k.records) c.args.source k.rules.bypass) c.self.view_is
+    ∙ acceptable-free g.met.C.Ord.total s c.args.peer.now c.args.source c.args.now (sym c.is_blocked.ensures ∙ c.if-is_blocked.false)))
+
+pub returns-in-None : goal.returns-in-None
+returns-in-None g c = λ calls s.
+    ap (λ (r : Option Recorded). is_acceptable_in r c.args.source c.self.inside.cfg.bypass_ip_check) (ap option_copied (sym c.in-None.is) ∙ c.get.ensures)
+    ∙ (ap (λ (k : Kept g.row.C.Denot). is_acceptable_in (lookup (is_at (g.C.Ord.cmp c.args.peer.now)) k.records) c.args.source k.rules.bypass) c.self.view_is
+    ∙ acceptable-free g.met.C.Ord.total s c.args.peer.now c.args.source c.args.now (sym c.is_blocked.ensures ∙ c.if-is_blocked.false))

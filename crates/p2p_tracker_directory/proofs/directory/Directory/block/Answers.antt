@@ -8,21 +8,21 @@ use Rattle.p2p_tracker_directory.proofs.Standing.{stands-unblockable, stands-blo
 use Rattle.p2p_tracker_directory.proofs.Ended.{sorted-inserted}
 use Rattle.p2p_tracker_directory.proofs.directory.Directory.block.Goals as goal
 
-pub returns-then-is_local-clause-stands : goal.returns-then-is_local-clause-stands
-returns-then-is_local-clause-stands g c = λ calls s.
+pub returns-then-is_own-clause-stands : goal.returns-then-is_own-clause-stands
+returns-then-is_own-clause-stands g c = λ calls s.
     stands-unblockable g.met.C.Ord.total s c.args.peer.now c.args.now
-    (ap (λ l. l || lasts_at (lookup (is_at (g.C.Ord.cmp c.args.peer.now)) c.args.self.now.blocks) c.args.now) (sym c.is_local.ensures ∙ c.if-is_local.true))
+    (ap (λ l. l || lasts_at (lookup (is_at (g.C.Ord.cmp c.args.peer.now)) c.args.self.now.blocks) c.args.now) (sym c.is_own.ensures ∙ c.if-is_own.true))
 
 pub returns-then-is_blocked-clause-stands : goal.returns-then-is_blocked-clause-stands
 returns-then-is_blocked-clause-stands g c = λ calls s.
     stands-unblockable g.met.C.Ord.total s c.args.peer.now c.args.now
-    (ap (λ l. l || lasts_at (lookup (is_at (g.C.Ord.cmp c.args.peer.now)) c.args.self.now.blocks) c.args.now) (sym c.is_local.ensures ∙ c.if-is_local.false)
+    (ap (λ l. l || lasts_at (lookup (is_at (g.C.Ord.cmp c.args.peer.now)) c.args.self.now.blocks) c.args.now) (sym c.is_own.ensures ∙ c.if-is_own.false)
     ∙ (sym c.is_blocked.ensures ∙ c.if-is_blocked.true))
 
 pub returns-clause-stands : goal.returns-clause-stands
 returns-clause-stands g c = λ calls s.
     stands-block g.met.C.Ord.total (subst (λ k. StandsFor g.C.Ord.cmp k calls) (sym c.self.view_is) s) c.args.peer.now c.args.now c.put.new.self
-    (subst (λ k. is_local g.C.Ord.cmp k.rules c.args.peer.now ≡ false) (sym c.self.view_is) (sym c.is_local.ensures ∙ c.if-is_local.false))
+    (subst (λ k. is_local g.C.Ord.cmp k.rules c.args.peer.now ≡ false) (sym c.self.view_is) (sym c.is_own.ensures ∙ c.if-is_own.false))
     (subst (λ k. lasts_at (lookup (is_at (g.C.Ord.cmp c.args.peer.now)) k.blocks) c.args.now ≡ false) (sym c.self.view_is) (sym c.is_blocked.ensures ∙ c.if-is_blocked.false))
     (λ q. c.in_ok-put.ensures.each q
     ∙ ap (λ e. cond (is_at (g.C.Ord.cmp c.args.peer.now) q) (Some e) (lookup (is_at (g.C.Ord.cmp q)) c.self.inside.blocks))
