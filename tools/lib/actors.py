@@ -55,7 +55,8 @@ class Handshake:
 
 
 class Link:
-    """A link, by the `connect` that made it: who dialed, by which attempt, at whom it arrived, and what became of the arrival."""
+    """A link, by the `connect` that made it: who dialed, by which attempt, at whom it arrived, what became of the arrival, which of
+    its ends were dropped, and by which event it was cut."""
 
     def __init__(self, number, node, attempt, to):
         self.number = number
@@ -66,6 +67,11 @@ class Link:
         self.turned_away = None
         self.finished = None
         self.dropped = {}
+        self.cut = None
+
+    def can_be_cut(self):
+        """Whether it was not cut, and one of its ends stands."""
+        return self.cut is None and len(self.dropped) < 2
 
 
 class Dialer:

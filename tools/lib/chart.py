@@ -5,7 +5,7 @@ from moments import duration_text
 from picture_row import Row
 from picture_words import CONTROL, DROPPED, REFUSED, event_text, item_label, refuses, reply_text, short
 from picture_ways import Ways
-from places import all_nodes, keys_of_nodes, link_ends, link_writers, links_of, nodes_at
+from places import all_nodes, cuts_of, keys_of_nodes, link_ends, link_writers, links_of, nodes_at
 from set_up import connections_made
 from sheet import Sheet
 
@@ -115,11 +115,19 @@ class Chart:
         return next(iter(self.nodes_at(entry.number)), None) if node is None else node
 
     def draw_links(self):
-        for link, (dialing, listening) in links_of(self.report).items():
-            x1, x2 = sorted((self.x(dialing), self.x(listening)))
-            if link in self.rows:
-                words = svg.text(x2 - 12, -4, 'link %d' % link, anchor='end', colour=LINK)
-                self.rows[link].below(svg.line(x1, 0, x2, 0, LINK, 1.4, '5,4') + words)
+        links = links_of(self.report)
+        for link in links:
+            self.draw_link(link, links[link], 'link %d' % link, LINK)
+        for entry, link in cuts_of(self.report, self.events):
+            if link in links:
+                self.draw_link(entry, links[link], 'link %d is cut' % link, DROPPED)
+
+    def draw_link(self, entry, ends, words, colour):
+        """A link between the nodes that have its ends, at an entry that made or cut it."""
+        if entry in self.rows:
+            x1, x2 = sorted(map(self.x, ends))
+            told = svg.text(x2 - 12, -4, words, anchor='end', colour=colour)
+            self.rows[entry].below(svg.line(x1, 0, x2, 0, colour, 1.4, '5,4') + told)
 
     def folded_row(self, count):
         """The row that stands for so many entries, with the connections that they made."""

@@ -1,6 +1,6 @@
 """What each entry of a report is about: its nodes, its connections, its channels and its copies, by which a page chooses entries."""
 from journey import copies_carried, node_of
-from places import link_ends, link_writers, nodes_at
+from places import cuts_of, link_ends, link_writers, links_of, nodes_at
 from report_form import is_number
 from set_up import connections_made
 
@@ -55,6 +55,7 @@ class Tagger:
         self.made = {number for number, *_ in made}
         self.connections = {(link, node): number for number, node, _, link in made if is_number(link)}
         self.writers, self.readers = link_writers(report), link_ends(report, journeys)
+        self.links, self.cuts = links_of(report), dict(cuts_of(report, events))
         self.channels = {journey.name: journey.channel for journey in journeys if is_number(journey.channel)}
         self.sent = {}
         for journey in journeys:
@@ -64,6 +65,12 @@ class Tagger:
         """The connection of a node that writes a link, or reads it."""
         kind, number, *_ = queue.split(':')
         return self.connections.get((int(number), nodes.get(queue))) if kind == 'link' else None
+
+    def add_cut(self, tags, link):
+        """The nodes at the ends of a link that is cut, and their connections over it."""
+        for node in self.links.get(link, ()):
+            tags.nodes.add(node)
+            tags.connections.add(self.connections.get((link, node)))
 
     def tags_of(self, entry):
         tags = Tags()
@@ -78,6 +85,7 @@ class Tagger:
             tags.connections.add(self.connection_of(self.report.item(name)[0], self.readers))
         if entry.number in self.made:
             tags.connections.add(entry.number)
+        self.add_cut(tags, self.cuts.get(entry.number))
         tags.copies.update(self.sent.get(entry.number, ()), (end[1] for end in entry.ends if end[0] == 'copy'))
         tags.channels.update(self.channels[name] for name in tags.copies if name in self.channels)
         tags.connections.discard(None)

@@ -24,6 +24,8 @@ def is_gone(state, event):
         return (node, event['channel']) not in state.channels or (node, event['channel']) in state.closed
     if act == 'send_checked':
         return event['check'] not in state.checks or event['check'] in state.spent
+    if act == 'cut':
+        return event['link'] not in state.links or not state.links[event['link']].can_be_cut()
     for name, actors in (('conn', state.connections), ('attempt', state.attempts), ('handshake', state.handshakes)):
         if name in event and act not in ('connect', 'refuse', 'resolve'):
             return is_over(actors, event[name], node)
@@ -72,6 +74,15 @@ def start_misfit(state, entry, event):
     return 'it subscribes to the channels %s, and those of node %d are %s' % (told, event['node'], due)
 
 
+def cut_misfit(state, entry, event):
+    """Why it does not end what is in flight over its link, first what the node wrote that dialed."""
+    due = [name for side in ('out', 'in') for name, _ in state.queues.line('link:%d:%s' % (event['link'], side))]
+    told = [end[1] for end in entry.ends if end[0] == 'item']
+    if told == due:
+        return None
+    return 'it ends the items %s, and in flight over link %d are %s' % (list(map(list, told)), event['link'], list(map(list, due)))
+
+
 def misfit(state, entry, event):
     """Why an entry cannot have its reply, if it cannot."""
     gone = is_gone(state, event)
@@ -81,4 +92,5 @@ def misfit(state, entry, event):
         return waiting_misfit(state, entry, event)
     if event['do'] in ('send', 'check') and entry.reply != 'gone':
         return keys_misfit(state, entry, event)
-    return start_misfit(state, entry, event) if event['do'] == 'start' else None
+    judge = {'start': start_misfit, 'cut': cut_misfit}.get(event['do'])
+    return judge(state, entry, event) if judge and entry.reply != 'gone' else None

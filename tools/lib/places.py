@@ -30,6 +30,12 @@ def links_of(report):
     return found
 
 
+def cuts_of(report, events):
+    """The entries that cut a link, each with its link."""
+    acts = zip(report.entries, events)
+    return [(entry.number, event.get('link')) for entry, event in acts if event.get('do') == 'cut' and entry.reply == 'ok']
+
+
 def named_at_link(put):
     """What a put says of the other end of a link: the queue's node, the link and the key; nothing, if it says none."""
     queue, item = put

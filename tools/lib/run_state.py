@@ -217,6 +217,10 @@ class RunState:
         if entry.reply == 'ok' and event['link'] in self.links:
             self.links[event['link']].finished = entry.number
 
+    def did_cut(self, entry, event, _):
+        if entry.reply == 'ok' and event['link'] in self.links:
+            self.links[event['link']].cut = entry.number
+
     def did_listener(self, entry, event, items):
         item = items[0] if items else None
         if isinstance(item, list):
@@ -230,7 +234,7 @@ class RunState:
             deadline = event['at'] + self.configurations[event['node']]['handshake_timeout']
             self.handshakes[entry.number] = Handshake(entry.number, event['node'], item, deadline)
         else:
-            link.turned_away = entry.number
+            link.turned_away = link.dropped['in'] = entry.number
 
     def gates(self, node, ip):
         """The limiters of an address and of its subnet."""

@@ -17,7 +17,7 @@ REPLIES = {
     'overwrite': ASKED, 'block': ASKED, 'peer_set': ASKED, 'subscribe': ASKED, 'blocked': ASKED,
     'answer': ('gone', 'pending', 'peer_set'), 'next': ('pending', 'update', 'blocked'), 'tracker': STEPS, 'dialer': STEPS,
     'attempt': STEPS, 'resolve': ('ok', 'gone'), 'connect': ('ok', 'gone', 'pending'), 'refuse': ('ok', 'gone', 'pending'),
-    'finish': ('ok', 'gone', 'pending'),
+    'finish': ('ok', 'gone', 'pending'), 'cut': ('ok', 'gone'),
     'listener': (*STEPS, 'private', 'unregistered', 'limited', 'too_many', 'admitted'), 'handshake': STEPS, 'spawner': STEPS,
 }
 # The queues into which each act puts; where it is not here, it puts nothing.
@@ -83,7 +83,7 @@ def check_named(report, entry, event):
             if not any(one.split(':')[0] == queue for one in made):
                 raise OtherRun(entry.number, 'entry %d %s, so the reply is not %s'
                                % (event[name], lacking, reply_text(entry.reply)))
-    if event['do'] == 'finish' and entry.reply != 'gone' and len(report.entries[event['link']].puts) != 2:
+    if event['do'] in ('finish', 'cut') and entry.reply != 'gone' and len(report.entries[event['link']].puts) != 2:
         raise OtherRun(entry.number, 'entry %d made no link, so the reply is not %s'
                        % (event['link'], reply_text(entry.reply)))
 

@@ -90,6 +90,7 @@ ACT_FORMS = {
     'connect': {'attempt': whole, 'from': a_socket, 'node': whole, 'to': whole},
     'refuse': {'attempt': whole, 'node': whole},
     'finish': {'link': whole, 'ok': a_flag},
+    'cut': {'link': whole},
     'listener': {'node': whole},
     'handshake': {'handshake': whole, 'node': whole},
     'spawner': {'node': whole},

@@ -113,6 +113,9 @@ class Script:
     def finish(self, link, ok=True):
         return self.event('finish', link=link, ok=ok)
 
+    def cut(self, link):
+        return self.event('cut', link=link)
+
     # ---- what is made of it
 
     def text(self):

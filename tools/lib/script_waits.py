@@ -51,6 +51,8 @@ class Waits:
         self.steps = {}
         self.peers = {}
         self.ended = set()
+        self.links = {}
+        self.cut = set()
         self.granted_at = {}
 
     def asked(self, do, said):
@@ -116,6 +118,13 @@ class Waits:
             self.router.releases.add(conn)
             self.tracker.releases.add(conn)
 
+    def linked(self, do, link):
+        """What the end of an exchange, or the cut of a link, leaves."""
+        if do == 'finish':
+            self.spawns += 1
+        else:
+            self.cut.add(link)
+
     def acted(self, do, said):
         """What an act of the node leaves."""
         if do == 'register':
@@ -143,13 +152,14 @@ class Waits:
 
 def may_end(node, conn, do):
     """Whether a step may end a connection: of one that no way made; where its tracker may have killed it; where the peer sent what this
-    node cannot take; and where the other end may have ended."""
+    node cannot take; and where the other end may have ended, or the link was cut."""
     peer = next((peer for peer, name in node.waits.peers.items() if name == conn), None)
     if peer is None:
         return True
     here, there = node.waits, peer.waits
     is_untakable = not there.sent_on <= here.channels or there.longest > here.configuration['max_message_size']
-    return here.was_changed_by_hand or do == 'recv_step' and is_untakable or there.peers[node] in there.ended
+    is_broken = there.peers[node] in there.ended or here.links[conn] in here.cut
+    return here.was_changed_by_hand or do == 'recv_step' and is_untakable or is_broken
 
 
 def said_at(script, number):
@@ -167,11 +177,10 @@ def note(script, event):
     said, do = event.said, event.said['do']
     if not set(ACT_FORMS.get(do, ['none'])) <= set(said):
         return
-    if do == 'finish':
+    if do in ('finish', 'cut'):
         linked = said_at(script, said['link'])
-        for waits in (waits_at(script, linked.get('node')), waits_at(script, linked.get('to'))):
-            if waits:
-                waits.spawns += 1
+        for waits in filter(None, (waits_at(script, linked.get('node')), waits_at(script, linked.get('to')))):
+            waits.linked(do, said['link'])
     if do == 'connect' and waits_at(script, said['to']):
         waits_at(script, said['to']).arrivals += 1
     if do == 'send_checked':

@@ -1,5 +1,6 @@
 """Ways of many acts: from two nodes that run to two connections that run."""
 from script_refusals import look_at_the_way
+from script_values import BadSource
 
 
 def track_each_other(*nodes):
@@ -81,7 +82,7 @@ def reach(a, b, again=False):
     link = arrive(attempt, b)
     exchange_keys(link, admit(b))
     conns = a.spawner(), b.spawner()
-    remember(a, b, conns)
+    remember(a, b, conns, link)
     script.is_on_a_way = False
     return conns
 
@@ -91,6 +92,15 @@ def connect(a, b, again=False):
     here, there = reach(a, b, again)
     begin(here, there)
     return here, there
+
+
+def link_of(conn):
+    """The link of a connection that a way made."""
+    script = conn.script
+    links = {name: link for node in script.nodes for name, link in node.waits.links.items()}
+    if conn.number not in links:
+        raise BadSource('event %d is no connection that a way made' % conn.number)
+    return script.events[links[conn.number]]
 
 
 # ---- what they are made of
@@ -122,10 +132,11 @@ def track_again(a, b):
         node.tracker()
 
 
-def remember(a, b, conns):
-    """What the way leaves: two connections, and nothing that waits."""
+def remember(a, b, conns, link):
+    """What the way leaves: two connections over a link, and nothing that waits."""
     for node, peer, conn in ((a, b, conns[0]), (b, a, conns[1])):
         node.waits.peers[peer] = conn.number
+        node.waits.links[conn.number] = link.number
         node.waits.granted_at[peer] = node.script.moment
         node.waits.tracker.came = 0
         node.waits.spawns = 0

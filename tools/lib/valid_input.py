@@ -150,7 +150,7 @@ class Past:
                  'recv_step': self.connection_fault, 'answer': self.question_fault, 'next': self.question_fault,
                  'attempt': self.attempt_fault, 'resolve': self.attempt_fault, 'connect': self.attempt_fault,
                  'refuse': self.attempt_fault, 'handshake': self.handshake_fault, 'finish': self.link_fault,
-                 'send_checked': self.check_fault}.get(event.act)
+                 'cut': self.link_fault, 'send_checked': self.check_fault}.get(event.act)
         return judge(event) if judge else None
 
     def fault_of(self, event):

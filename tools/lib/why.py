@@ -3,7 +3,7 @@ from journey import copies_carried
 from run_state import RunState
 from same_run import NOT_FOLLOWING
 from why_copies import copy_causes
-from why_peers import (why_attempt, why_connect, why_dialer, why_finish, why_handshake, why_listener, why_resolve)
+from why_peers import (why_attempt, why_connect, why_cut, why_dialer, why_finish, why_handshake, why_listener, why_resolve)
 from why_sends import why_checked, why_recv, why_send_checked, why_sent
 from why_steps import why_recv_step, why_router, why_send_step, why_spawner
 from why_tracker import why_answer, why_asked, why_tracker
@@ -15,7 +15,7 @@ JUDGES = {
     'track': why_asked, 'overwrite': why_asked, 'block': why_asked, 'peer_set': why_asked, 'subscribe': why_asked,
     'blocked': why_asked, 'tracker': why_tracker, 'answer': why_answer, 'next': why_answer, 'dialer': why_dialer,
     'attempt': why_attempt, 'resolve': why_resolve, 'connect': why_connect, 'refuse': why_connect, 'listener': why_listener,
-    'handshake': why_handshake, 'finish': why_finish,
+    'handshake': why_handshake, 'finish': why_finish, 'cut': why_cut,
 }
 # What takes a copy out of each queue.
 TAKERS = {'router': 'router', 'high': 'send_step', 'low': 'send_step', 'link': 'recv_step', 'held': 'recv_step', 'channel': 'recv'}

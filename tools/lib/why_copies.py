@@ -61,6 +61,10 @@ def ended(state, entry, copy):
     return Cause('%s %d ends here and drops its end of the link' % (kind, event[kind]), entry.number)
 
 
+def cut(state, entry, copy):
+    return Cause('it was in flight over link %d, which was cut' % state.events[entry.number]['link'])
+
+
 def refused(state, entry, copy):
     return Cause('connection %d ends here: %s' % (state.events[entry.number]['conn'], entry.reply['ended']), entry.number)
 
@@ -83,6 +87,6 @@ def closed(state, entry, copy):
 
 
 CAUSES = {
-    'unbound': unbound, 'no_connection': no_route, 'relay_full': relay_full, 'connection_ended': ended,
+    'unbound': unbound, 'no_connection': no_route, 'relay_full': relay_full, 'connection_ended': ended, 'link_cut': cut,
     'frame_refused': refused, 'channel_unregistered': refused, 'mailbox_full': full_mailbox, 'receiver_closed': closed,
 }

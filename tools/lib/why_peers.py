@@ -150,6 +150,19 @@ def why_finish(state, entry, event):
     return None
 
 
+def why_cut(state, entry, event):
+    """A cut of what is no link, or none any more."""
+    number, link = event['link'], state.links.get(event['link'])
+    if entry.reply != 'gone':
+        return None
+    if link is None:
+        return began_none(state, number, 'made no link')
+    if link.cut is not None:
+        return Cause('event %d cut link %d' % (link.cut, number))
+    last = max(link.dropped.values())
+    return Cause('both ends of link %d were dropped, the last one at entry %d' % (number, last), last)
+
+
 def not_accepted(state, link):
     """Why the handshake at a link has not taken yet that its peer may connect."""
     if link.handshake is None:
@@ -172,6 +185,8 @@ def not_exchanged(state, link, said):
                      % (link.to, link.turned_away), link.turned_away)
     if handshake is not None and handshake.ended is not None:
         return Cause(text + 'handshake %d ended at entry %d' % (handshake.number, handshake.ended), handshake.ended)
+    if link.cut is not None:
+        return Cause(text + 'event %d cut link %d' % (link.cut, link.number))
     if not said:
         return Cause(text + 'the event says so, with "ok":false')
     key = state.configurations[link.to]['key']

@@ -79,11 +79,10 @@ def held_back(state, one, name, item):
 def why_ended(state, entry, one):
     """What is behind the end of a connection, by its reason."""
     reason = entry.reply.get('ended')
-    other = state.links[one.link].dropped.get('in' if one.side == 'out' else 'out')
     if reason == 'killed':
         return why_killed(state, entry.takes[0][0])
     if reason in ('send_failed', 'receive_failed'):
-        return other and Cause('the other end of link %d was dropped at entry %d' % (one.link, other), other)
+        return why_broken(state.links[one.link], 'in' if one.side == 'out' else 'out')
     copy = state.item(entry.takes[0])['copy']
     if reason == 'invalid_channel':
         return Cause('copy [%d,%d] came on channel %d, which is not registered at node %d'
@@ -92,6 +91,14 @@ def why_ended(state, entry, one):
     most = state.configurations[one.node]['max_message_size']
     return Cause('the message of copy [%d,%d] has %d bytes, and max_message_size of node %d is %d'
                  % (*copy, len(sent) // 2, one.node, most)) if copy else None
+
+
+def why_broken(link, other):
+    """What broke a link first: the drop of its other end, or a cut."""
+    dropped = link.dropped.get(other)
+    if dropped is not None and (link.cut is None or dropped < link.cut):
+        return Cause('the other end of link %d was dropped at entry %d' % (link.number, dropped), dropped)
+    return None if link.cut is None else Cause('event %d cut link %d' % (link.cut, link.number))
 
 
 def why_killed(state, number):

@@ -134,6 +134,13 @@ class Page(unittest.TestCase):
                 ({1}, {26}, {7, 8}, [(39, 0), (40, 0), (50, 0), (51, 0)]),
                 ({1}, set(), {7}, [(38, 0)])])
 
+    def test_a_cut_is_about_both_ends_of_its_link(self):
+        report, events = example('cut')
+        tagger = Tagger(report, journeys(report, events), events)
+        tags = [tagger.tags_of(report.entries[number]) for number in (48, 49, 74)]
+        self.assertEqual([(one.nodes, one.connections, one.channels, sorted(one.copies)) for one in tags], [
+            ({0, 1}, {24, 25}, {7}, [(38, 0), (45, 0)]), (set(), set(), set(), []), ({0, 1}, set(), set(), [])])
+
     def test_the_tool_writes_the_page(self):
         with tempfile.TemporaryDirectory() as folder:
             path = os.path.join(folder, 'ended.html')

@@ -63,7 +63,7 @@ REPLIES = {
 }
 HOWS = {
     'delivered', 'unbound', 'no_connection', 'relay_full', 'connection_ended', 'frame_refused', 'channel_unregistered',
-    'mailbox_full', 'receiver_closed',
+    'mailbox_full', 'receiver_closed', 'link_cut',
 }
 
 

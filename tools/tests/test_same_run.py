@@ -26,6 +26,7 @@ OTHERS = [
     ('script 8 = {"at":0,"do":"dialer","node":1}', 8, 'a dialer of node 1 puts nothing into tracker:0'),
     ('script 13 to = 0', 13, 'puts nothing into arrivals:1'),
     ('script 19 = {"at":0,"do":"refuse","attempt":12,"node":0}', 19, 'a refuse puts nothing into handshake:1:16'),
+    ('script 19 = {"at":0,"do":"cut","link":13}', 19, 'a cut puts nothing into attempt:0:12'),
     ('script 26 = {"at":0,"do":"router","node":0}', 26, 'a router puts nothing into tracker:0'),
     ('script 36 bytes = "00"', 36, 'its message has other bytes: 00070568656c6c6f'),
     ('script 36 priority = true', 36, 'its message has another channel or priority'),
@@ -88,6 +89,24 @@ class SameRun(unittest.TestCase):
             script['script'][number]['at'] = at
             with self.subTest(name):
                 self.assertEqual(other_run(report, script), (number, reason))
+
+    def test_a_cut_that_ends_other_frames_is_refused(self):
+        path = os.path.join(TOP, 'examples', 'cut.json')
+        lines, script = read_text(beside(path, '.report')).splitlines(), json.loads(read_text(path))
+        ends = json.loads(lines[48])['end']
+        for told, items in ((ends[:2], [[42, 2]]), (ends[2:] + ends[:2], [[47, 0], [42, 2]]), ([], [])):
+            front = [*lines[:48], json.dumps({**json.loads(lines[48]), 'end': told}), '{"copies":0,"entries":49}']
+            self.assertEqual(other_run(read_report('\n'.join(front) + '\n'), dict(script, script=script['script'][:49])),
+                             (48, 'it ends the items %s, and in flight over link 13 are [[42, 2], [47, 0]]' % items))
+
+    def test_a_cut_that_cannot_be_told_so_is_refused(self):
+        lines, script = read_text(HELLO).splitlines()[:41], edited('script 41 = {"at":0,"do":"cut","link":13}')
+        for first, again, due in (('ok', 'gone', None), ('ok', 'ok', (42, 'the reply is "ok", and "gone" is due')),
+                                  ('gone', 'gone', (41, 'the reply is "gone", and another is due'))):
+            cuts = [{'end': [], 'n': number, 'put': [], 'reply': reply, 'take': []} for number, reply in ((41, first), (42, again))]
+            report = read_report('\n'.join([*lines, *map(json.dumps, cuts), '{"copies":0,"entries":43}']) + '\n')
+            told = other_run(report, dict(script, script=[*script['script'], script['script'][-1]]))
+            self.assertEqual(told, due)
 
     def test_a_reply_that_is_not_due_is_refused(self):
         lines = [json.loads(line) for line in read_text(HELLO).splitlines()]

@@ -8,7 +8,8 @@ import unittest
 import script as words
 from files import TOP, beside, examples, read_text, run_tool
 from judge import judge
-from script import SECOND, BadSource, Script, address, begin, connect, dial, duration, name, quota, reach, socket, track_each_other
+from script import (SECOND, BadSource, Script, address, begin, connect, dial, duration, link_of, name, quota, reach, socket,
+                    track_each_other)
 from script_form import ACT_FORMS, OPTIONAL_FORMS
 from script_node import Node
 
@@ -53,6 +54,7 @@ def some_of_each_act():
     attempt = cat.dialer(seed=1)
     cat.resolve(attempt, ['[2001:db8::1]:3000'])
     cat.refuse(attempt)
+    script.cut(link_of(to_bob))
     ann.track(5, [bob], secondary=[(9, address(egress='10.0.0.9:3000', ingress=name('nine.example')))])
     return script
 
@@ -135,6 +137,7 @@ class Words(unittest.TestCase):
         script.event('stop', node=7)
         script.event('send_checked', check=99, bytes='', priority=False)
         script.event('finish', link=99, ok=True)
+        script.event('cut', link=99)
 
     def test_values(self):
         self.assertEqual(socket('[::1]:3000'), {'ip': [0] * 15 + [1], 'port': 3000})
@@ -281,6 +284,25 @@ class Ways(unittest.TestCase):
         connect(cat, ann)
         steps = [event for event in said_of(script)[count:] if event['do'] in ('router', 'tracker') and event['node'] == 0]
         self.assertEqual([event['do'] for event in steps], ['tracker'] * 4 + ['router'] * 2 + ['tracker'])
+
+    def test_a_way_again_leads_past_a_cut(self):
+        script, (ann, bob, _) = running()
+        to_bob, to_ann = connect(ann, bob)
+        link = link_of(to_ann)
+        self.assertEqual((link.said['do'], link_of(to_bob)), ('connect', link))
+        bob.recv_step(to_ann)
+        script.cut(link)
+        self.refused('node 0, of key 1, is connected with key 2', ann, bob, again=True)
+        ann.recv_step(to_bob)
+        self.refused('node 1, of key 2, is connected with key 1', ann, bob, again=True)
+        bob.recv_step(to_ann)
+        self.refused('say again=True', ann, bob)
+        connect(ann, bob, again=True)
+
+    def test_what_no_way_made_has_no_link_that_is_known(self):
+        _, (ann, _, _) = running()
+        with self.assertRaisesRegex(BadSource, 'is no connection that a way made'):
+            link_of(ann.spawner())
 
     def test_a_way_to_connections_that_have_not_begun_ends_before_their_first_step(self):
         (script, (ann, bob, _)), (whole, others) = running(), running()

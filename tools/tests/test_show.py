@@ -17,6 +17,7 @@ HELLO = os.path.join(TOP, 'examples', 'hello.report')
 PINGS = os.path.join(TOP, 'examples', 'pings.report')
 CHECKED = os.path.join(TOP, 'examples', 'checked.report')
 ENDED = os.path.join(TOP, 'examples', 'ended.report')
+CUT = os.path.join(TOP, 'examples', 'cut.report')
 TRACKER = r'''{"end":[],"n":0,"put":[["tracker:0",{"call":0}]],"reply":{"feedback":"ok"},"take":[]}
 {"end":[],"n":1,"put":[["control:0:4","kill"],["update:0",[[10,0,0,2]]],["updates:0",{"all":{"primary":[2],"secondary":[]},"index":6,"latest":{"primary":[2],"secondary":[]}}]],"reply":"ok","take":[[0,0]]}
 {"end":[],"n":2,"put":[],"reply":{"update":{"all":{"primary":[2],"secondary":[]},"index":6,"latest":{"primary":[2],"secondary":[]}}},"take":[[1,2]]}
@@ -239,6 +240,12 @@ class Show(unittest.TestCase):
             '[52,0] dropped: connection_ended', '[95,0] dropped: frame_refused'))
         reasons = ('killed', 'invalid_channel', 'decode_failed', 'send_failed', 'receive_failed')
         self.assertEqual([drawn.count('connection ended: %s<' % why) for why in reasons], [1] * 5)
+
+    def test_a_cut_is_drawn_across_its_link_with_what_ends_there(self):
+        drawn = self.assert_drawn(read_text(CUT), read_text(beside(CUT, '.json')), (
+            '48  cut of event 13: ok', '49  cut of event 13: gone', '[38,0] dropped: link_cut', '[45,0] dropped: link_cut',
+            '74  cut of event 69: ok'))
+        self.assertEqual([drawn.count('>link %d is cut<' % link) for link in (13, 69)], [1, 1])
 
     def test_each_direction_of_a_link_has_its_writer(self):
         self.assertEqual(link_writers(read_report(read_text(HELLO))), {'link:13:out': 0, 'link:13:in': 1})

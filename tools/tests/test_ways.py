@@ -6,7 +6,7 @@ import subprocess
 import unittest
 
 from files import TOP
-from script import SECOND, BadSource, Script, connect, quota
+from script import SECOND, BadSource, Script, connect, link_of, quota
 
 PROGRAM = os.environ.get('P2P_PROGRAM', os.path.join(TOP, 'p2p'))
 SCRIPTS = 60
@@ -38,6 +38,8 @@ def acts_of(draw, script, nodes, conns):
         lambda: node.track(draw.randint(0, 9), draw.sample(nodes, 2)),
         lambda: script.wait(milliseconds=draw.choice([1, 300, 1500])),
     ]
+    if conns:
+        found.append(lambda: script.cut(link_of(draw.choice(conns))))
     for conn in conns[-4:]:
         owner = script.nodes[conn.said['node']]
         found += [lambda owner=owner, conn=conn: owner.send_step(conn), lambda owner=owner, conn=conn: owner.recv_step(conn)]

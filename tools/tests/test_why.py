@@ -5,7 +5,7 @@ import unittest
 
 from agreement import disagreements
 from files import TOP, beside, read_text, reports, run_tool
-from report_form import read_report
+from report_form import Entry, read_report
 from why import FALSE, REFUSALS, REFUSING, is_refusal, why_lines
 
 ANSWERS = os.path.join(TOP, 'examples', 'answers.report')
@@ -56,6 +56,15 @@ class Why(unittest.TestCase):
                 self.assertEqual(found, [])
             compared += count
         self.assertGreater(compared, 300)
+
+    def test_a_cut_of_a_link_whose_ends_were_dropped_tells_of_the_last_drop(self):
+        report, configurations, events = read_example(os.path.join(TOP, 'examples', 'ended.report'))
+        count = len(events)
+        report.entries.append(Entry('', count, 'gone', [], [], []))
+        told = why_lines(report, configurations, [*events, {'at': events[-1]['at'], 'do': 'cut', 'link': 14}])
+        line = next(line for line in told if line.startswith('event %d, cut: ' % count))
+        self.assertTrue(line.startswith(
+            'event %d, cut: "gone": both ends of link 14 were dropped, the last one at entry 64; first of all, event ' % count), line)
 
     def test_what_refuses_is_told_from_what_does_not(self):
         for reply in [*REFUSALS, *({word: 1} for word in REFUSING), *FALSE]:

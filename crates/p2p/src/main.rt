@@ -8,6 +8,7 @@ use crate::gate::NoGate;
 use crate::words::words_of;
 use p2p_runtime::{StdSink, StdSource};
 use p2p_sim::p2p_sim;
+use std::mem::forget;
 use std::process::ExitCode;
 
 fn main(rt: HostRuntime) -> ExitCode {
@@ -16,7 +17,7 @@ fn main(rt: HostRuntime) -> ExitCode {
             let mut source = StdSource::new(rt.stdin());
             let mut sink = StdSink::new(rt.stdout());
             let mut end = None;
-            p2p_sim(
+            let status = p2p_sim(
                 &rt,
                 rt.alloc(),
                 &words,
@@ -24,7 +25,10 @@ fn main(rt: HostRuntime) -> ExitCode {
                 &mut sink,
                 &mut end,
                 &NoGate,
-            )
+            );
+            // The process ends here, which gives back all that the world holds at once.
+            forget(end);
+            status
         }
         Err(status) => status,
     };

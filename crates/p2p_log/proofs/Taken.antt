@@ -1,6 +1,6 @@
 -- What is taken of what stands in queues: each item the first of its queue when its turn comes.
 use Rattle.std.proofs.Common.{◌≡◌, ℕ, zero, suc, ◌+◌, Bool, true, false, cond, List, [], ◌∷◌, ◌++◌, map, take, inl, inr, refl, ap, sym, subst, ◌∙◌, arith}
-use Rattle.std.specs.Prelude.{filter, not, ◌||◌, sum_by}
+use Rattle.std.specs.Prelude.{filter, flat_map, not, ◌||◌, sum_by}
 use Rattle.std.specs.List.{AllByRecursion as Each}
 use Rattle.std.proofs.lemmas.List.Sums.{sum_by-cons}
 use Rattle.p2p_log.specs.declared.queue.Queue.{Queue}
@@ -200,6 +200,29 @@ Each-drained P xs (q ∷ qs) h =
     let l = filter (stands_in q) xs in
     let left = filter (stays (map name_of l)) xs in
     Each-append P l (drained left qs) (Each-weaker (λ x. x.queue ≡ q) P h.0 l (Each-in_queue q xs)) (Each-drained P left qs h.1)
+
+-- queues that are emptied one after another give their lines, where no two of them are one
+lines_drained : (xs ys : List Envelope) (qs : List Queue) → AreApart xs → AreDifferent qs → Each (λ q. filter (stands_in q) xs ≡ filter (stands_in q) ys) qs
+    → drained xs qs ≡ flat_map (λ q. filter (stands_in q) ys) qs
+lines_drained xs ys [] apart differ same = refl
+lines_drained xs ys (q ∷ qs) apart differ same =
+    let l = filter (stands_in q) xs in
+    let left = filter (stays (map name_of l)) xs in
+    ap (λ a. a ++ drained left qs) same.0
+    ∙ ap (λ b. filter (stands_in q) ys ++ b)
+    (lines_drained left ys qs (AreApart-filter (stays (map name_of l)) xs apart) differ.1 (still qs differ.0 same.1))
+  where
+    still : (ps : List Queue) → Each (λ p. same_queue q p ≡ false) ps → Each (λ p. filter (stands_in p) xs ≡ filter (stands_in p) ys) ps
+        → Each (λ p. filter (stands_in p) (filter (stays (map name_of (filter (stands_in q) xs))) xs) ≡ filter (stands_in p) ys) ps
+    still [] d h = tt
+    still (p ∷ ps) d h = (other_left xs q p apart d.0 ∙ h.0, still ps d.1 h.1)
+
+pub drained_lines : (xs : List Envelope) (qs : List Queue) → AreApart xs → AreDifferent qs → drained xs qs ≡ flat_map (λ q. filter (stands_in q) xs) qs
+drained_lines xs qs apart differ = lines_drained xs xs qs apart differ (same qs)
+  where
+    same : (qs : List Queue) → Each (λ q. filter (stands_in q) xs ≡ filter (stands_in q) xs) qs
+    same [] = tt
+    same (q ∷ qs) = (refl, same qs)
 
 module _ (brings : Envelope → List Queue) where
   -- no item of this queue brings the queue itself

@@ -19,6 +19,8 @@ pub enum Cause {
     MailboxFull,
     /// The reader of its channel closes, or had closed.
     ReceiverClosed,
+    /// It was in flight over a link that was cut.
+    LinkCut,
 }
 
 /// What became of a copy.

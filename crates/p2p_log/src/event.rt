@@ -145,6 +145,10 @@ pub enum Act {
         link: u64,
         ok: bool,
     },
+    /// Cuts the link of this event: what is in flight over it ends, and each later read and write of it fails.
+    Cut {
+        link: u64,
+    },
 }
 
 /// An act at a moment, in nanoseconds, with the seed of what it draws.
@@ -301,6 +305,7 @@ impl Act {
                 link: *link,
                 ok: *ok,
             }),
+            Act::Cut { link } => Ok(Act::Cut { link: *link }),
         }
     }
 }

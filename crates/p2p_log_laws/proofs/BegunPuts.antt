@@ -27,7 +27,8 @@ use Rattle.p2p_log_rules.specs.declared.row.Row.{Row}
 use Rattle.p2p_log_rules.proofs.Connections.{steps_sender, sender_is}
 use Rattle.p2p_log_rules.specs.Connections.{live_half, is_done, is_begun, is_running}
 use Rattle.p2p_log_rules.specs.Effect.{row, only, takes_oldest, write_row, batch_size_at, beside_ping, batch, written_row, told_to_end_row, running_row, begin_row, half_row, sender_row, send_step_row}
-use Rattle.p2p_log_rules.specs.Dropping.{other_side, is_dropped}
+use Rattle.p2p_log_rules.specs.Cutting.{is_broken}
+use Rattle.p2p_log_rules.specs.Dropping.{other_side}
 use Rattle.p2p_log_rules.specs.Ending.{end_row}
 use Rattle.p2p_log_rules.specs.Pings.{ping_frame, ping_is_due}
 use Rattle.p2p_log_rules.specs.Facts.{is_up}
@@ -135,7 +136,7 @@ module _ (n conn : ℕ) (log : List Entry) where
   last_begins a half why c taken =
       silent_begins a (end_row log n conn half why c taken) (count_by-none (tells_begun n conn) (end_row log n conn half why c taken).puts (refl, (and_false (n == n), tt)))
 
-  goes_on : (a : Act) (half : Half) (dropped due : Bool) (ys : List Envelope) → BeginsOnce a (written_row log n conn half dropped due ys)
+  goes_on : (a : Act) (half : Half) (broken due : Bool) (ys : List Envelope) → BeginsOnce a (written_row log n conn half broken due ys)
   goes_on a half true false [] = silent_begins a (only reply.Idle) refl
   goes_on a half false false [] = silent_begins a (only reply.Idle) refl
   goes_on a half true false (y ∷ ys) = last_begins a half ended.SendFailed cause.ConnectionEnded (y ∷ ys)
@@ -151,9 +152,9 @@ module _ (n conn : ℕ) (log : List Entry) where
   running_begins : (configs : List Config) (half : Half) (due : Bool) → BeginsOnce (act.SendStep conn n) (running_row configs log n conn half due)
   running_begins configs half due =
       let most : ℕ = beside_ping due (batch_size_at configs n) in
-      let dropped : Bool = is_dropped log half.link (other_side half.writes) in
-      told_begins (act.SendStep conn n) half (line log (queue.Control n conn)) (nat_lt 0 most) (written_row log n conn half dropped due (batch log n conn most))
-      (goes_on (act.SendStep conn n) half dropped due (batch log n conn most))
+      let broken : Bool = is_broken log half.link (other_side half.writes) in
+      told_begins (act.SendStep conn n) half (line log (queue.Control n conn)) (nat_lt 0 most) (written_row log n conn half broken due (batch log n conn most))
+      (goes_on (act.SendStep conn n) half broken due (batch log n conn most))
 
   half_begins : (configs : List Config) (at : ℕ) (half : Half) (begun running : Bool) → is_begun log n conn ≡ begun → (n == n) ≡ true → (conn == conn) ≡ true
       → BeginsOnce (act.SendStep conn n) (half_row configs log n conn at half begun running)

@@ -22,7 +22,7 @@ use Rattle.p2p_log_rules.specs.declared.row.Half.{Half}
 use Rattle.p2p_log_rules.specs.declared.row.Row.{Row}
 use Rattle.p2p_log.specs.Lines.{name_of, live, line}
 use Rattle.p2p_log_rules.specs.Connections.{half_at, is_begun, is_running, live_half}
-use Rattle.p2p_log_rules.specs.Dropping.{is_dropped}
+use Rattle.p2p_log_rules.specs.Cutting.{is_broken}
 use Rattle.p2p_log_rules.specs.Ending.{queues_with, end_row}
 use Rattle.p2p_log_rules.specs.Facts.{is_up}
 use Rattle.p2p_log.specs.Copies.{carries, carries_copy}
@@ -218,7 +218,7 @@ module _ (configs : List Config) (log : List Entry) (conn n : ℕ) (half : Half)
   relayed_with true = inl refl
   relayed_with false = inr (inl refl)
 
-  -- what it has to write, where the other end of its link was dropped
+  -- what it has to write, where the other end of its link was dropped, or the link was cut
   send_failed : (ys : List Envelope) → AreTaken (live log) ys → Each (IsRelayed n conn) ys → Shape configs log a (end_row log n conn half ended.SendFailed cause.ConnectionEnded ys)
   send_failed ys stood relayed =
       sender_ends ended.SendFailed ys stood
@@ -237,7 +237,7 @@ module _ (configs : List Config) (log : List Entry) (conn n : ℕ) (half : Half)
   told_shape (x ∷ rest) true r first s = killed x rest first
   told_shape (x ∷ rest) false r first s = s
 
-  written_row_shape : (dropped due : Bool) (ys : List Envelope) → AreTaken (live log) ys → Each (IsRelayed n conn) ys → Shape configs log a (Effect.written_row log n conn half dropped due ys)
+  written_row_shape : (broken due : Bool) (ys : List Envelope) → AreTaken (live log) ys → Each (IsRelayed n conn) ys → Shape configs log a (Effect.written_row log n conn half broken due ys)
   written_row_shape true false [] stood relayed = still configs log a reply.Idle refl refl
   written_row_shape false false [] stood relayed = still configs log a reply.Idle refl refl
   written_row_shape true true ys stood relayed = send_failed ys stood relayed
@@ -248,9 +248,9 @@ module _ (configs : List Config) (log : List Entry) (conn n : ℕ) (half : Half)
   running_shape : (due : Bool) → Shape configs log a (Effect.running_row configs log n conn half due)
   running_shape due =
       let most : ℕ = Effect.beside_ping due (Effect.batch_size_at configs n) in
-      let dropped : Bool = is_dropped log half.link (Effect.other_side half.writes) in
-      told_shape (line log (queue.Control n conn)) (nat_lt 0 most) (Effect.written_row log n conn half dropped due (Effect.batch log n conn most)) refl
-      (written_row_shape dropped due (Effect.batch log n conn most) (batch_moved log n conn most) (batch_relayed log n conn most))
+      let broken : Bool = is_broken log half.link (Effect.other_side half.writes) in
+      told_shape (line log (queue.Control n conn)) (nat_lt 0 most) (Effect.written_row log n conn half broken due (Effect.batch log n conn most)) refl
+      (written_row_shape broken due (Effect.batch log n conn most) (batch_moved log n conn most) (batch_relayed log n conn most))
 
   half_shape : (moment : ℕ) (begun running : Bool) → Shape configs log a (Effect.half_row configs log n conn moment half begun running)
   half_shape moment false running = start_shape configs log conn n half at

@@ -1,6 +1,6 @@
 -- What each act puts says of links what is true.
 use Rattle.std.proofs.Common.{◌≡◌, ℕ, Bool, true, false, cond, List, [], ◌∷◌, ◌++◌, map, take, Option, Some, None, ◌⊎◌, inl, inr, refl, ap, sym, subst, ◌∙◌, eq-eqb}
-use Rattle.std.specs.Prelude.{◌==◌, ◌&&◌, ◌||◌, nat_le, is_some}
+use Rattle.std.specs.Prelude.{◌==◌, ◌&&◌, ◌||◌, not, nat_le, is_some}
 use Rattle.std.specs.List.{AllByRecursion as Each}
 use Rattle.std.specs.Option.{option_map}
 use Rattle.std.proofs.lemmas.Bool.{and_parts, false≢true}
@@ -43,6 +43,7 @@ use Rattle.p2p_log_rules.specs.Effect.{effect, row}
 use Rattle.p2p_log_rules.specs.Facts.{is_up, key_at}
 use Rattle.p2p_log_rules.specs.Handshakes.{is_handshaking, is_finished, source_at, peer_at}
 use Rattle.p2p_log_rules.specs.Handshaking.{handshake_deadline, handshake_took_row, is_due, handshake_turn, handshake_row}
+use Rattle.p2p_log_rules.specs.Cutting.{is_cut}
 use Rattle.p2p_log_rules.specs.Links.{openings_of, listening_ends_of, is_dialed, accepts, exchanged, dialing_puts, listening_puts, finished_row, verdict, finish_by, finish_row}
 use Rattle.p2p_log_rules.specs.Rows.{only, is_spawner_full}
 use Rattle.p2p_log_rules.specs.Tracking.{key_cmp, rules_at, asked_by, calls_of, update_subscriptions, blocked_subscriptions}
@@ -265,8 +266,8 @@ module _ (configs : List Config) (log : List Entry) where
   -- ---- the end of an exchange
 
   -- what it comes to, by the attempt that dialed
-  abbrev comes_to : Bool → Opening → Option Attempt → Option ListeningEnd → Option Bool
-  comes_to ok o d end = verdict configs log ok o.to (option_map (λ (a : Attempt). a.key) d) end
+  abbrev comes_to : ℕ → Bool → Opening → Option Attempt → Option ListeningEnd → Option Bool
+  comes_to link ok o d end = verdict configs log ok o.to (is_cut log link) (option_map (λ (a : Attempt). a.key) d) end
 
   module _ (opened : AreOpened configs log) (link : ℕ) (ok : Bool) (o : Opening) (is : openings_of log link ≡ Some o) where
     agreed : (stand agree accepted : Bool) → exchanged stand agree accepted ≡ Some true → agree ≡ true
@@ -274,13 +275,13 @@ module _ (configs : List Config) (log : List Entry) where
     agreed true false accepted so = absurd (cc)
     agreed false agree accepted so = absurd (cc)
 
-    dialing_says : (d : Option Attempt) (end : Option ListeningEnd) → attempts_of configs log o.node o.attempt ≡ d → (told : Bool) → comes_to ok o d end ≡ Some told
+    dialing_says : (d : Option Attempt) (end : Option ListeningEnd) → attempts_of configs log o.node o.attempt ≡ d → (told : Bool) → comes_to link ok o d end ≡ Some told
         → Each P (dialing_puts o.node o.attempt told d)
     dialing_says None end here told so = tt
     dialing_says (Some a) end here false so = (tt, tt)
     dialing_says (Some a) end here true so =
         let made : IsOpened configs log link o = opened link o is in
-        let both = and_parts ok (a.key.0 == (key_at configs o.to).0) (agreed (is_some (Some a.key) && is_some end) (ok && is_dialed (key_at configs o.to) (Some a.key)) (accepts log o.to end) so) in (
+        let both = and_parts ok (a.key.0 == (key_at configs o.to).0) (agreed ((is_some (Some a.key) && is_some end) && not (is_cut log link)) (ok && is_dialed (key_at configs o.to) (Some a.key)) (accepts log o.to end) so) in (
           (
             made.early,
             λ b standing.
@@ -295,7 +296,7 @@ module _ (configs : List Config) (log : List Entry) where
     listening_says told (Some listening.Arriving) = tt
     listening_says told (Some (listening.Handshake h)) = (tt, tt)
 
-    finished_says : (d : Option Attempt) (end : Option ListeningEnd) → attempts_of configs log o.node o.attempt ≡ d → (v : Option Bool) → comes_to ok o d end ≡ v
+    finished_says : (d : Option Attempt) (end : Option ListeningEnd) → attempts_of configs log o.node o.attempt ≡ d → (v : Option Bool) → comes_to link ok o d end ≡ v
         → Each P (finished_row o d end v).puts
     finished_says d end here None so = tt
     finished_says d end here (Some told) so = append (dialing_puts o.node o.attempt told d) (listening_puts o.to told end) (dialing_says d end here told so) (listening_says told end)
@@ -308,12 +309,12 @@ module _ (configs : List Config) (log : List Entry) where
   finish_says opened link ok = by (openings_of log link) refl
     where
       by : (p : Option Opening) → openings_of log link ≡ p
-          → RowSays (elim p [ None ↦ only reply.Gone | Some o ↦ finish_by configs log ok o (attempts_of configs log o.node o.attempt) (listening_ends_of log o.to link) ])
+          → RowSays (elim p [ None ↦ only reply.Gone | Some o ↦ finish_by configs log ok (is_cut log link) o (attempts_of configs log o.node o.attempt) (listening_ends_of log o.to link) ])
       by None is = tt
       by (Some o) is =
           let d = attempts_of configs log o.node o.attempt in
           let end = listening_ends_of log o.to link in
-          finished_says opened link ok o is d end refl (comes_to ok o d end) refl
+          finished_says opened link ok o is d end refl (comes_to link ok o d end) refl
 
 -- ---- all acts
 

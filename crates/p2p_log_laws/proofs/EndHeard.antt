@@ -30,7 +30,8 @@ use Rattle.p2p_log_rules.specs.declared.row.Half.{Half}
 use Rattle.p2p_log_rules.specs.declared.row.Opening.{Opening}
 use Rattle.p2p_log_rules.specs.declared.row.Row.{Row}
 use Rattle.p2p_log_rules.specs.Connections.{live_half, is_done, is_answer, begins, runs, is_begun, has_run, is_running, is_ended}
-use Rattle.p2p_log_rules.specs.Dropping.{other_side, is_dropped}
+use Rattle.p2p_log_rules.specs.Cutting.{is_broken}
+use Rattle.p2p_log_rules.specs.Dropping.{other_side}
 use Rattle.p2p_log_rules.specs.Effect
 use Rattle.p2p_log_rules.specs.Effect.{effect, row, entry_of, Spread, spread, row_of_spread, peers_put, mailbox_size_at}
 use Rattle.p2p_log_rules.specs.Ending.{end_row}
@@ -162,7 +163,7 @@ module _ (n conn : ℕ) (log : List Entry) where
   last_tells a half why c taken =
       silent a (end_row log n conn half why c taken) (count_by-none (tells_ready n conn) (end_row log n conn half why c taken).puts (and_false (n == n), (refl, tt)))
 
-  goes_on_tells : (a : Act) (half : Half) (dropped due : Bool) (ys : List Envelope) → TellsOnce a (Effect.written_row log n conn half dropped due ys)
+  goes_on_tells : (a : Act) (half : Half) (broken due : Bool) (ys : List Envelope) → TellsOnce a (Effect.written_row log n conn half broken due ys)
   goes_on_tells a half true false [] = silent a (only reply.Idle) refl
   goes_on_tells a half false false [] = silent a (only reply.Idle) refl
   goes_on_tells a half true false (y ∷ ys) = last_tells a half ended.SendFailed cause.ConnectionEnded (y ∷ ys)
@@ -178,9 +179,9 @@ module _ (n conn : ℕ) (log : List Entry) where
   running_tells : (configs : List Config) (half : Half) (due : Bool) → TellsOnce (act.SendStep conn n) (Effect.running_row configs log n conn half due)
   running_tells configs half due =
       let most : ℕ = Effect.beside_ping due (Effect.batch_size_at configs n) in
-      let dropped : Bool = is_dropped log half.link (other_side half.writes) in
-      told_tells (act.SendStep conn n) half (line log (queue.Control n conn)) (nat_lt 0 most) (Effect.written_row log n conn half dropped due (Effect.batch log n conn most))
-      (goes_on_tells (act.SendStep conn n) half dropped due (Effect.batch log n conn most))
+      let broken : Bool = is_broken log half.link (other_side half.writes) in
+      told_tells (act.SendStep conn n) half (line log (queue.Control n conn)) (nat_lt 0 most) (Effect.written_row log n conn half broken due (Effect.batch log n conn most))
+      (goes_on_tells (act.SendStep conn n) half broken due (Effect.batch log n conn most))
 
   half_tells : (configs : List Config) (at : ℕ) (half : Half) (begun running : Bool) → is_begun log n conn ≡ begun → (n == n) ≡ true → (conn == conn) ≡ true
       → TellsOnce (act.SendStep conn n) (Effect.half_row configs log n conn at half begun running)

@@ -26,6 +26,7 @@ use Rattle.p2p_log_rules.specs.Attempting.{Attempt, attempts_of}
 use Rattle.p2p_log_rules.specs.Effect.{entry_of}
 use Rattle.p2p_log_rules.specs.Handshakes.{is_accepted, takes_acceptance}
 use Rattle.p2p_log_rules.proofs.HandshakeTook.{takes_none}
+use Rattle.p2p_log_rules.specs.Cutting.{is_cut}
 use Rattle.p2p_log_rules.specs.Links.{openings_of, listening_ends_of, is_dialed, accepts, exchanged, dialing_puts, listening_puts, finished_row, verdict, finish_by, finish_row}
 use Rattle.p2p_log_rules.specs.Facts.{key_at}
 use Rattle.p2p_log_rules.specs.Rows.{only}
@@ -135,22 +136,22 @@ module _ (w : Words) (sound : (w.acceptance && w.refusal) ≡ false) (n name : �
           (λ so. subst (λ m. is_accepted log m name ≡ true) (eqb-true o.to n both.0) (subst (λ k. is_accepted log o.to k ≡ true) (eqb-true h name both.1) (accepted so)))
 
   by_verdict : (o : Opening) → openings_of log link ≡ Some o → (dialing : Option Attempt) (dialed : Option Key) (end : Option ListeningEnd) → listening_ends_of log o.to link ≡ end
-      → (v : Option Bool) → verdict configs log ok o.to dialed end ≡ v → Answers w n name log ev (finished_row o dialing end v)
+      → (v : Option Bool) → verdict configs log ok o.to (is_cut log link) dialed end ≡ v → Answers w n name log ev (finished_row o dialing end v)
   by_verdict o is dialing dialed end ends None said = quiet w n name log ev (only reply.Pending) (no_moves log (only reply.Pending) refl refl) tt (none_now (only reply.Pending))
   by_verdict o is dialing dialed end ends (Some agree) said =
       by_end o is agree dialing end ends
-      (λ so. agreed (is_some dialed && is_some end) (ok && is_dialed (key_at configs o.to) dialed) (accepts log o.to end) (said ∙ ap Some so))
+      (λ so. agreed ((is_some dialed && is_some end) && not (is_cut log link)) (ok && is_dialed (key_at configs o.to) dialed) (accepts log o.to end) (said ∙ ap Some so))
 
   pub finish_answers : Answers w n name log ev (finish_row configs log link ok)
   finish_answers = by (openings_of log link) refl
     where
       by : (p : Option Opening) → openings_of log link ≡ p → Answers w n name log ev (elim p [
         | None ↦ only reply.Gone
-        | Some o ↦ finish_by configs log ok o (attempts_of configs log o.node o.attempt) (listening_ends_of log o.to link)
+        | Some o ↦ finish_by configs log ok (is_cut log link) o (attempts_of configs log o.node o.attempt) (listening_ends_of log o.to link)
       ])
       by None is = quiet w n name log ev (only reply.Gone) (no_moves log (only reply.Gone) refl refl) tt (none_now (only reply.Gone))
       by (Some o) is =
           let dialing : Option Attempt = attempts_of configs log o.node o.attempt in
           let dialed : Option Key = option_map (λ (a : Attempt). a.key) dialing in
           let end : Option ListeningEnd = listening_ends_of log o.to link in
-          by_verdict o is dialing dialed end refl (verdict configs log ok o.to dialed end) refl
+          by_verdict o is dialing dialed end refl (verdict configs log ok o.to (is_cut log link) dialed end) refl

@@ -22,6 +22,7 @@ use Rattle.p2p_log_rules.specs.declared.row.Opening.{Opening}
 use Rattle.p2p_log_rules.specs.declared.row.ListeningEnd.{ListeningEnd}
 use Rattle.p2p_log_rules.specs.declared.row.ListeningEnd.TheVariants as listening
 use Rattle.p2p_log_rules.specs.Attempting.{Attempt, attempts_of}
+use Rattle.p2p_log_rules.specs.Cutting.{is_cut}
 use Rattle.p2p_log_rules.specs.Links.{openings_of, listening_ends_of, dialing_puts, listening_puts, finished_row, verdict, finish_by, finish_row}
 use Rattle.p2p_log_rules.specs.Rows.{only}
 use Rattle.p2p_log_rules.proofs.Touches.{in_handshakes, in_ends}
@@ -77,13 +78,13 @@ module _ (configs : List Config) (log : List Entry) (link : ℕ) (ok : Bool) whe
     where
       by_opening : (p : Option Opening) → openings_of log link ≡ p → Shape configs log a (elim p [
         | None ↦ only reply.Gone
-        | Some o ↦ finish_by configs log ok o (attempts_of configs log o.node o.attempt) (listening_ends_of log o.to link)
+        | Some o ↦ finish_by configs log ok (is_cut log link) o (attempts_of configs log o.node o.attempt) (listening_ends_of log o.to link)
       ])
       by_opening None is = still configs log a reply.Gone refl refl
       by_opening (Some o) is =
           let dialing : Option Attempt = attempts_of configs log o.node o.attempt in
           let end : Option ListeningEnd = listening_ends_of log o.to link in
-          finished_shape o is dialing end (verdict configs log ok o.to (option_map (λ (a : Attempt). a.key) dialing) end)
+          finished_shape o is dialing end (verdict configs log ok o.to (is_cut log link) (option_map (λ (a : Attempt). a.key) dialing) end)
 
 -- and neither grants a key nor releases one
 pub finish_plain : (n : ℕ) (key : Key) (o : Opening) (ok : Bool) (dialing : Option Attempt) (end : Option ListeningEnd)

@@ -23,7 +23,8 @@ use Rattle.p2p_log_rules.specs.declared.row.Half.{Half}
 use Rattle.p2p_log_rules.specs.declared.row.Row.{Row}
 use Rattle.p2p_log_rules.specs.Closing.{is_closed, refused_by}
 use Rattle.p2p_log_rules.specs.Connections.{live_half, is_begun, is_running, is_end}
-use Rattle.p2p_log_rules.specs.Dropping.{other_side, is_dropped}
+use Rattle.p2p_log_rules.specs.Cutting.{is_broken}
+use Rattle.p2p_log_rules.specs.Dropping.{other_side}
 use Rattle.p2p_log_rules.specs.Effect
 use Rattle.p2p_log_rules.specs.Ending.{end_row}
 use Rattle.p2p_log_rules.specs.Facts.{is_up, channels, capacity_in}
@@ -67,7 +68,7 @@ module _ (configs : List Config) (log : List Entry) (conn n at : ℕ) (P : Queue
     each : (ys : List Envelope) → Each P (map put ys)
     each ys = Each-map P put ys (Each-always (λ y. P (put y)) (λ y. link half.link half.writes y.item) ys)
 
-    written : (dropped due : Bool) (ys : List Envelope) → Steps (Effect.written_row log n conn half dropped due ys)
+    written : (broken due : Bool) (ys : List Envelope) → Steps (Effect.written_row log n conn half broken due ys)
     written true false [] = rests reply.Idle refl
     written false false [] = rests reply.Idle refl
     written true false (y ∷ ys) = over half lived ended.SendFailed cause.ConnectionEnded (y ∷ ys)
@@ -83,8 +84,8 @@ module _ (configs : List Config) (log : List Entry) (conn n at : ℕ) (P : Queue
     running : (due : Bool) → Steps (Effect.running_row configs log n conn half due)
     running due =
         let most : ℕ = Effect.beside_ping due (Effect.batch_size_at configs n) in
-        let dropped : Bool = is_dropped log half.link (other_side half.writes) in
-        told (line log (queue.Control n conn)) (nat_lt 0 most) (Effect.written_row log n conn half dropped due (Effect.batch log n conn most)) (written dropped due (Effect.batch log n conn most))
+        let broken : Bool = is_broken log half.link (other_side half.writes) in
+        told (line log (queue.Control n conn)) (nat_lt 0 most) (Effect.written_row log n conn half broken due (Effect.batch log n conn most)) (written broken due (Effect.batch log n conn most))
 
   answered : (xs : List Envelope) → Steps (takes_oldest xs)
   answered [] = rests reply.Idle refl
@@ -154,11 +155,11 @@ module _ (configs : List Config) (log : List Entry) (conn n at : ℕ) (P : Queue
       by_frame x _ = rests reply.Idle refl
 
       receives : (frames : List Envelope) → Steps (Effect.receive_row configs log n conn at half frames)
-      receives [] = by_dropped (is_dropped log half.link (other_side half.writes))
+      receives [] = by_broken (is_broken log half.link (other_side half.writes))
         where
-          by_dropped : (b : Bool) → Steps (cond b (end_row log n conn half ended.ReceiveFailed cause.ConnectionEnded []) (only reply.Idle))
-          by_dropped true = over half lived ended.ReceiveFailed cause.ConnectionEnded []
-          by_dropped false = rests reply.Idle refl
+          by_broken : (b : Bool) → Steps (cond b (end_row log n conn half ended.ReceiveFailed cause.ConnectionEnded []) (only reply.Idle))
+          by_broken true = over half lived ended.ReceiveFailed cause.ConnectionEnded []
+          by_broken false = rests reply.Idle refl
       receives (x ∷ xs) = by_frame x x.item
 
       again : (name copy : ℕ × ℕ) (message : ℕ × List ℕ) (o : Option ℕ)

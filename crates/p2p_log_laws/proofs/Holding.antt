@@ -27,7 +27,7 @@ use Rattle.p2p_log_rules.specs.Closing.{is_closed, refused_by}
 use Rattle.p2p_log_rules.specs.Connections.{live_half, is_running}
 use Rattle.p2p_log_rules.specs.Effect
 use Rattle.p2p_log_rules.specs.Effect.{row, goes_to}
-use Rattle.p2p_log_rules.specs.Dropping.{is_dropped}
+use Rattle.p2p_log_rules.specs.Cutting.{is_broken}
 use Rattle.p2p_log_rules.specs.Ending.{end_row}
 use Rattle.p2p_log_rules.specs.Facts.{is_up, channels, capacity_in}
 use Rattle.p2p_log_rules.specs.Frames.{message_in, is_ping_in}
@@ -113,12 +113,12 @@ module _ (configs : List Config) (log : List Entry) (n conn : ℕ) where
     retry_alone name item.Ping = passed_alone name (may_pass configs log m e at pings)
     retry_alone name _ = inl tt
 
-    none_alone : (dropped : Bool) → Alone (cond dropped (end_row log m e half ended.ReceiveFailed cause.ConnectionEnded []) (Effect.only reply.Idle))
+    none_alone : (broken : Bool) → Alone (cond broken (end_row log m e half ended.ReceiveFailed cause.ConnectionEnded []) (Effect.only reply.Idle))
     none_alone true = last_alone ended.ReceiveFailed cause.ConnectionEnded []
     none_alone false = inl tt
 
     held_alone : (xs frames : List Envelope) → Alone (Effect.held_row configs log m e at half xs frames)
-    held_alone [] [] = none_alone (is_dropped log half.link (Effect.other_side half.writes))
+    held_alone [] [] = none_alone (is_broken log half.link (Effect.other_side half.writes))
     held_alone [] (x ∷ frames) = frame_alone x x.item
     held_alone (x ∷ xs) frames = retry_alone (name_of x) x.item
 

@@ -24,7 +24,8 @@ use Rattle.p2p_log_rules.specs.Attempting.{Attempt, dial_rules_at, attempts_of, 
 use Rattle.p2p_log_rules.specs.Closing.{is_closed, refused_by}
 use Rattle.p2p_log_rules.specs.Connections.{live_half, is_begun, is_running}
 use Rattle.p2p_log_rules.specs.Dialing.{Dials, dials_of, due_row, answer_taken_row}
-use Rattle.p2p_log_rules.specs.Dropping.{other_side, is_dropped}
+use Rattle.p2p_log_rules.specs.Cutting.{is_broken}
+use Rattle.p2p_log_rules.specs.Dropping.{other_side}
 use Rattle.p2p_log_rules.specs.Effect.{effect, entry_of, row, route_row, batch_size_at, batch, written_row, deliver_row, delivered_row, message_row, ping_row, frame_row, retry_row, limit_at}
 use Rattle.p2p_log_rules.specs.Effect as effects
 use Rattle.p2p_log_rules.specs.Facts.{is_up, channels, capacity_in}
@@ -110,16 +111,16 @@ shaken_serves n full h peer name _ left = refl
 
 module _ (configs : List Config) (log : List Entry) (n conn : ℕ) (half : Half) where
   -- a ping, and what fits beside it
-  pinged_serves : (cs : List Envelope) (room dropped : Bool) (xs : List Envelope) → is_still (effects.told_to_end_row log n conn half cs room (written_row log n conn half dropped true xs)).reply ≡ false
-  pinged_serves (x ∷ cs) true dropped xs = refl
+  pinged_serves : (cs : List Envelope) (room broken : Bool) (xs : List Envelope) → is_still (effects.told_to_end_row log n conn half cs room (written_row log n conn half broken true xs)).reply ≡ false
+  pinged_serves (x ∷ cs) true broken xs = refl
   pinged_serves (x ∷ cs) false true xs = refl
   pinged_serves (x ∷ cs) false false xs = refl
   pinged_serves [] room true xs = refl
   pinged_serves [] room false xs = refl
 
   -- a batch that is not empty
-  written_serves : (size : ℕ) (dropped : Bool) (x : Envelope) (xs : List Envelope) → nat_lt 0 size ≡ true → is_still (written_row log n conn half dropped false (take size (x ∷ xs))).reply ≡ false
-  written_serves zero dropped x xs room = absurd (cc)
+  written_serves : (size : ℕ) (broken : Bool) (x : Envelope) (xs : List Envelope) → nat_lt 0 size ≡ true → is_still (written_row log n conn half broken false (take size (x ∷ xs))).reply ≡ false
+  written_serves zero broken x xs room = absurd (cc)
   written_serves (suc k) true x xs room = refl
   written_serves (suc k) false x xs room = refl
 
@@ -200,42 +201,42 @@ module _ (configs : List Config) (log : List Entry) (fitting : Each StandsFit (l
   sender_first n conn half true true =
       by (ping_is_due configs log n conn at) (nat_lt 0 (batch_size_at configs n)) refl (line log (queue.Control n conn)) (line log (queue.High n conn)) (line log (queue.Low n conn)) refl refl
     where
-      dropped : Bool
-      dropped = is_dropped log half.link (other_side half.writes)
+      broken : Bool
+      broken = is_broken log half.link (other_side half.writes)
 
       by : (pings room : Bool) → nat_lt 0 (batch_size_at configs n) ≡ room → (cs hs ls : List Envelope) → line log (queue.High n conn) ≡ hs → line log (queue.Low n conn) ≡ ls
           → Serves (sender_serves configs log n conn (Some half))
           (first_of (ready pings due ∷ only_where room (oldest_of (queue.Control n conn) cs ∷ oldest_of (queue.High n conn) hs ∷ oldest_of (queue.Low n conn) ls ∷ [])))
       by true room fit cs hs ls high low =
-          pinged_serves configs log n conn half (line log (queue.Control n conn)) (nat_lt 0 (batch_size_at configs n - 1)) dropped (batch log n conn (batch_size_at configs n - 1))
+          pinged_serves configs log n conn half (line log (queue.Control n conn)) (nat_lt 0 (batch_size_at configs n - 1)) broken (batch log n conn (batch_size_at configs n - 1))
       by false false fit cs hs ls high low = tt
       by false true fit (x ∷ xs) hs ls high low = refl
       by false true fit [] (x ∷ xs) ls high low =
-          ap (λ l. is_still (written_row log n conn half dropped false (take (batch_size_at configs n) (l ++ line log (queue.Low n conn)))).reply) high
-          ∙ written_serves configs log n conn half (batch_size_at configs n) dropped x (xs ++ line log (queue.Low n conn)) fit
+          ap (λ l. is_still (written_row log n conn half broken false (take (batch_size_at configs n) (l ++ line log (queue.Low n conn)))).reply) high
+          ∙ written_serves configs log n conn half (batch_size_at configs n) broken x (xs ++ line log (queue.Low n conn)) fit
       by false true fit [] [] (x ∷ xs) high low =
-          ap (λ l. is_still (written_row log n conn half dropped false (take (batch_size_at configs n) (l ++ line log (queue.Low n conn)))).reply) high
-          ∙ (ap (λ l. is_still (written_row log n conn half dropped false (take (batch_size_at configs n) l)).reply) low
-          ∙ written_serves configs log n conn half (batch_size_at configs n) dropped x xs fit)
+          ap (λ l. is_still (written_row log n conn half broken false (take (batch_size_at configs n) (l ++ line log (queue.Low n conn)))).reply) high
+          ∙ (ap (λ l. is_still (written_row log n conn half broken false (take (batch_size_at configs n) l)).reply) low
+          ∙ written_serves configs log n conn half (batch_size_at configs n) broken x xs fit)
       by false true fit [] [] [] high low = tt
 
   receiver_first : (n conn : ℕ) (half : Half) (running : Bool) → Serves (receiver_serves configs log n conn at (Some half))
       (first_of (only_where running (held_inputs (is_admitted configs log n conn at) (queue.Held n conn) (line log (queue.Held n conn)) (link_inputs log (Some half)))))
   receiver_first n conn half false = tt
   receiver_first n conn half true =
-      by (line log (queue.Held n conn)) (line log (queue.Link half.link (other_side half.writes))) refl (is_dropped log half.link (other_side half.writes))
+      by (line log (queue.Held n conn)) (line log (queue.Link half.link (other_side half.writes))) refl (is_broken log half.link (other_side half.writes))
     where
       held : (x : Envelope) (rest : List Envelope) (b : Bool) → is_admitted configs log n conn at x.item ≡ b
           → Serves (receiver_serves configs log n conn at (Some half)) (first_of (ready b (takes (queue.Held n conn) x rest) ∷ []))
       held x rest true is = held_serves configs log n conn half at (name_of x) x.item is
       held x rest false is = tt
 
-      by : (hs fs : List Envelope) → line log (queue.Link half.link (other_side half.writes)) ≡ fs → (dropped : Bool) → Serves (receiver_serves configs log n conn at (Some half))
+      by : (hs fs : List Envelope) → line log (queue.Link half.link (other_side half.writes)) ≡ fs → (broken : Bool) → Serves (receiver_serves configs log n conn at (Some half))
           (first_of
           (held_inputs (is_admitted configs log n conn at) (queue.Held n conn) hs
-          (oldest_of (queue.Link half.link (other_side half.writes)) fs ∷ ready dropped fault ∷ [])))
-      by (x ∷ rest) fs is dropped = held x rest (is_admitted configs log n conn at x.item) refl
-      by [] (x ∷ fs) is dropped =
+          (oldest_of (queue.Link half.link (other_side half.writes)) fs ∷ ready broken fault ∷ [])))
+      by (x ∷ rest) fs is broken = held x rest (is_admitted configs log n conn at x.item) refl
+      by [] (x ∷ fs) is broken =
           frame_serves configs log n conn half at half.link (other_side half.writes) x x.item (oldest_fits (queue.Link half.link (other_side half.writes)) x fs is)
       by [] [] is true = refl
       by [] [] is false = tt

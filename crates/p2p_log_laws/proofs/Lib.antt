@@ -17,6 +17,7 @@ pub mod Carried
 pub mod CausesMet
 pub mod Checks
 pub mod CloseShape
+pub mod CutShape
 pub mod Comes
 pub mod Coming
 pub mod ConnShapes

@@ -22,7 +22,8 @@ use Rattle.p2p_log_rules.specs.declared.row.Half.{Half}
 use Rattle.p2p_log_rules.specs.declared.row.Row.{Row}
 use Rattle.p2p_log_rules.specs.Closing.{is_closed, refused_by}
 use Rattle.p2p_log_rules.specs.Connections.{is_done, is_end, is_answer, begins, runs, ends_connection, live_half, is_begun, has_run, is_running, is_ended}
-use Rattle.p2p_log_rules.specs.Dropping.{other_side, is_dropped}
+use Rattle.p2p_log_rules.specs.Cutting.{is_broken}
+use Rattle.p2p_log_rules.specs.Dropping.{other_side}
 use Rattle.p2p_log_rules.specs.Effect
 use Rattle.p2p_log_rules.specs.Effect.{row, effect, limit_at}
 use Rattle.p2p_log_rules.specs.Ending.{end_row}
@@ -60,9 +61,9 @@ module _ (configs : List Config) (log : List Entry) (n conn at : ℕ) (fitting :
   module _ (half : Half) (lived : live_half log n conn ≡ Some half) (ran : is_running log n conn ≡ true) where
     -- ---- a step of a sending half that runs
 
-    written_ends : (dropped : Bool) → is_dropped log half.link (other_side half.writes) ≡ dropped → (due : Bool) (xs : List Envelope)
-        → Ends (Effect.written_row log n conn half dropped due xs)
-    written_ends dropped is false [] h = absurd (false≢true h)
+    written_ends : (broken : Bool) → is_broken log half.link (other_side half.writes) ≡ broken → (due : Bool) (xs : List Envelope)
+        → Ends (Effect.written_row log n conn half broken due xs)
+    written_ends broken is false [] h = absurd (false≢true h)
     written_ends true is false (x ∷ xs) h =
         record { half = half; lived = lived; ran = ran; why = ended.SendFailed; drops = cause.ConnectionEnded; taken = x ∷ xs; is = refl; reason = is }
     written_ends true is true xs h =
@@ -97,9 +98,9 @@ module _ (configs : List Config) (log : List Entry) (n conn at : ℕ) (fitting :
     running_ends : (due : Bool) → Ends (Effect.running_row configs log n conn half due)
     running_ends due =
         let most : ℕ = Effect.beside_ping due (Effect.batch_size_at configs n) in
-        let dropped : Bool = is_dropped log half.link (other_side half.writes) in
-        told_ends (line log (queue.Control n conn)) refl (nat_lt 0 most) (Effect.written_row log n conn half dropped due (Effect.batch log n conn most))
-        (written_ends dropped refl due (Effect.batch log n conn most))
+        let broken : Bool = is_broken log half.link (other_side half.writes) in
+        told_ends (line log (queue.Control n conn)) refl (nat_lt 0 most) (Effect.written_row log n conn half broken due (Effect.batch log n conn most))
+        (written_ends broken refl due (Effect.batch log n conn most))
 
     -- ---- a step of a receiving half
 
@@ -159,9 +160,9 @@ module _ (configs : List Config) (log : List Entry) (n conn at : ℕ) (fitting :
       frame_ends _ is = λ h. absurd (false≢true h)
 
     receive_ends : (frames : List Envelope) → line log (queue.Link half.link (other_side half.writes)) ≡ frames → Ends (Effect.receive_row configs log n conn at half frames)
-    receive_ends [] first = by (is_dropped log half.link (other_side half.writes)) refl
+    receive_ends [] first = by (is_broken log half.link (other_side half.writes)) refl
       where
-        by : (b : Bool) → is_dropped log half.link (other_side half.writes) ≡ b
+        by : (b : Bool) → is_broken log half.link (other_side half.writes) ≡ b
             → Ends (cond b (end_row log n conn half ended.ReceiveFailed cause.ConnectionEnded []) (Effect.only reply.Idle))
         by true is h = record { half = half; lived = lived; ran = ran; why = ended.ReceiveFailed; drops = cause.ConnectionEnded; taken = []; is = refl; reason = is }
         by false is h = absurd (false≢true h)

@@ -38,6 +38,7 @@ use Rattle.p2p_log_rules.specs.declared.row.Opening.{Opening}
 use Rattle.p2p_log_rules.specs.declared.row.ListeningEnd.{ListeningEnd}
 use Rattle.p2p_log_rules.specs.Handshakes.{is_handshaking, is_finished, peer_at}
 use Rattle.p2p_log_rules.specs.Handshaking.{handshake_deadline, is_due, handshake_turn, handshake_row}
+use Rattle.p2p_log_rules.specs.Cutting.{is_cut}
 use Rattle.p2p_log_rules.specs.Links.{openings_of, listening_ends_of, finished_row, verdict, finish_by, finish_row}
 use Rattle.p2p_log_rules.specs.Listening.{listener_row}
 use Rattle.p2p_log_rules.specs.Connections.{half_at, is_ended}
@@ -323,13 +324,13 @@ module _ (configs : List Config) (n : ℕ) (key : Key) (log : List Entry) where
 
         by_opening : (p : Option Opening) → Weighs (event at seed (act.Finish link ok)) (elim p [
           | None ↦ only reply.Gone
-          | Some o ↦ finish_by configs log ok o (attempts_of configs log o.node o.attempt) (listening_ends_of log o.to link)
+          | Some o ↦ finish_by configs log ok (is_cut log link) o (attempts_of configs log o.node o.attempt) (listening_ends_of log o.to link)
         ])
         by_opening None = asks (act.Finish link ok) (only reply.Gone) refl refl refl refl refl tt (untried (act.Finish link ok) (only reply.Gone) refl)
         by_opening (Some o) =
             let dialing : Option Attempt = attempts_of configs log o.node o.attempt in
             let end : Option ListeningEnd = listening_ends_of log o.to link in
-            by_verdict o dialing end (verdict configs log ok o.to (option_map (λ (a : Attempt). a.key) dialing) end)
+            by_verdict o dialing end (verdict configs log ok o.to (is_cut log link) (option_map (λ (a : Attempt). a.key) dialing) end)
 
     -- ---- the spawner's
 

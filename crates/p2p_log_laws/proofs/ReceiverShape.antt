@@ -29,7 +29,7 @@ use Rattle.p2p_log_rules.specs.declared.row.Half.{Half}
 use Rattle.p2p_log_rules.specs.declared.row.Row.{Row}
 use Rattle.p2p_log_rules.specs.Closing.{is_closed, refused_by}
 use Rattle.p2p_log_rules.specs.Connections.{half_at, is_running, live_half}
-use Rattle.p2p_log_rules.specs.Dropping.{is_dropped}
+use Rattle.p2p_log_rules.specs.Cutting.{is_broken}
 use Rattle.p2p_log_rules.specs.Ending.{end_row}
 use Rattle.p2p_log_rules.specs.Effect
 use Rattle.p2p_log_rules.specs.Effect.{entry_of}
@@ -339,11 +339,11 @@ module _ (configs : List Config) (log : List Entry) (conn n moment : ℕ) where
 
   receive_shape : (half : Half) (xs : List Envelope) → live_half log n conn ≡ Some half → line log (queue.Held n conn) ≡ []
       → line log (queue.Link half.link (Effect.other_side half.writes)) ≡ xs → Shape configs log step (Effect.receive_row configs log n conn moment half xs)
-  receive_shape half [] lived none e = by_dropped (is_dropped log half.link (Effect.other_side half.writes))
+  receive_shape half [] lived none e = by_broken (is_broken log half.link (Effect.other_side half.writes))
     where
-      by_dropped : (b : Bool) → Shape configs log step (cond b (end_row log n conn half ended.ReceiveFailed cause.ConnectionEnded []) (Effect.only reply.Idle))
-      by_dropped true = receive_failed half lived
-      by_dropped false = idle_shape
+      by_broken : (b : Bool) → Shape configs log step (cond b (end_row log n conn half ended.ReceiveFailed cause.ConnectionEnded []) (Effect.only reply.Idle))
+      by_broken true = receive_failed half lived
+      by_broken false = idle_shape
   receive_shape half (x ∷ rest) lived none e = frame_shape half lived none x rest e x.item refl
 
   by_held_shape : (half : Half) (xs frames : List Envelope) → live_half log n conn ≡ Some half → line log (queue.Held n conn) ≡ xs

@@ -7,6 +7,7 @@ use Rattle.p2p_log.specs.declared.event.Act.TheVariants as act
 use Rattle.p2p_log_rules.specs.Effect.{row}
 use Rattle.p2p_log_laws.proofs.CallShapes.{register_shape, start_shape, recv_shape}
 use Rattle.p2p_log_laws.proofs.CloseShape.{close_shape}
+use Rattle.p2p_log_laws.proofs.CutShape.{cut_shape}
 use Rattle.p2p_log_laws.proofs.ConnShapes.{send_step_shape}
 use Rattle.p2p_log_laws.proofs.ReceiverShape.{recv_step_shape}
 use Rattle.p2p_log_laws.proofs.RouterShape.{router_shape}
@@ -45,4 +46,5 @@ row_shape configs log at seed (act.Resolve addresses e n) = resolve_shape config
 row_shape configs log at seed (act.Connect e from n to) = connect_shape configs log e from n to
 row_shape configs log at seed (act.Refuse e n) = refuse_shape configs log e n
 row_shape configs log at seed (act.Finish link ok) = finish_shape configs log link ok
+row_shape configs log at seed (act.Cut link) = cut_shape configs log link
 row_shape configs log at seed (act.Tracker n) = tracker_shape configs log n at

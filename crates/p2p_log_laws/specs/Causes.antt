@@ -22,6 +22,7 @@ use Rattle.p2p_log_rules.specs.declared.row.Half.{Half}
 use Rattle.p2p_log.specs.Lines.{name_of, line}
 use Rattle.p2p_log_rules.specs.Closing.{is_closed}
 use Rattle.p2p_log_rules.specs.Connections.{half_at, live_half, ends_connection, is_ended}
+use Rattle.p2p_log_rules.specs.Cutting.{queues_over}
 use Rattle.p2p_log_rules.specs.Dropping.{LinkEnd, drops_of, frames_towards}
 use Rattle.p2p_log_rules.specs.Ending.{queues_with}
 use Rattle.p2p_log_rules.specs.Facts.{is_up, channels, capacity_in, key_at, taken, routes, route_to}
@@ -233,6 +234,20 @@ pub record IsLate (configs : List Config) (before : List Entry) (e : Entry) (cop
 abbrev pub ReceiverIsClosed : List Config → List Entry → Entry → ℕ × ℕ → Type 0
 ReceiverIsClosed configs before e copy = IsLeft configs before e copy ⊎ IsLate configs before e copy
 
+-- ---- link cut
+
+-- the entry cuts a link, over which the copy's frame was in flight
+pub record IsInFlightAtCut (before : List Entry) (e : Entry) (copy : ℕ × ℕ) : Type 0 where
+  pub link : ℕ
+  pub cuts : e.event.act ≡ act.Cut link
+  pub done : e.reply ≡ reply.Ok
+  pub from : Queue
+  pub over : IsAmong (queues_over link) from
+  pub place : ℕ
+  pub left : Envelope
+  pub stood : slice_get (line before from) place ≡ Some left
+  pub carried : carries copy left ≡ true
+
 -- ---- all causes
 
 -- what an entry that drops the copy for this cause shows, given the entries before it
@@ -245,6 +260,7 @@ Shows configs before e copy cause.FrameRefused = FrameIsRefused configs before e
 Shows configs before e copy cause.ChannelUnregistered = ChannelIsUnregistered configs before e copy
 Shows configs before e copy cause.MailboxFull = MailboxIsFull configs before e copy
 Shows configs before e copy cause.ReceiverClosed = ReceiverIsClosed configs before e copy
+Shows configs before e copy cause.LinkCut = IsInFlightAtCut before e copy
 
 -- each entry that drops a copy shows the cause
 abbrev pub EachDropShowsItsCause : List Config → List Entry → Type 0

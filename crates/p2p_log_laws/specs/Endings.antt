@@ -14,7 +14,8 @@ use Rattle.p2p_log.specs.declared.entry.Reply.TheVariants as reply
 use Rattle.p2p_log.specs.Lines.{name_of, line}
 use Rattle.p2p_log_rules.specs.declared.row.Half.{Half}
 use Rattle.p2p_log_rules.specs.Connections.{ends_connection, is_running, live_half}
-use Rattle.p2p_log_rules.specs.Dropping.{other_side, is_dropped}
+use Rattle.p2p_log_rules.specs.Cutting.{is_broken}
+use Rattle.p2p_log_rules.specs.Dropping.{other_side}
 use Rattle.p2p_log_rules.specs.Facts.{channels, capacity_in}
 use Rattle.p2p_log_rules.specs.Frames.{message_in, is_ping_in}
 use Rattle.p2p_log_rules.specs.Metering.{limit_at}
@@ -46,8 +47,8 @@ IsOnNoChannel configs before n _ = ⊥
 -- what is true where a half ends its connection for this reason, and takes these
 abbrev pub HasReason : List Config → List Entry → ℕ → ℕ → Half → List (ℕ × ℕ) → Ended → Type 0
 HasReason configs before n conn half takes ended.Killed = TakesOldest before (queue.Control n conn) takes (λ i. i ≡ item.Kill)
-HasReason configs before n conn half takes ended.SendFailed = is_dropped before half.link (other_side half.writes) ≡ true
-HasReason configs before n conn half takes ended.ReceiveFailed = is_dropped before half.link (other_side half.writes) ≡ true
+HasReason configs before n conn half takes ended.SendFailed = is_broken before half.link (other_side half.writes) ≡ true
+HasReason configs before n conn half takes ended.ReceiveFailed = is_broken before half.link (other_side half.writes) ≡ true
 HasReason configs before n conn half takes ended.DecodeFailed = TakesOldest before (queue.Link half.link (other_side half.writes)) takes (IsNoFrame (limit_at configs n))
 HasReason configs before n conn half takes ended.InvalidChannel = TakesOldest before (queue.Link half.link (other_side half.writes)) takes (IsOnNoChannel configs before n)
 

@@ -13,7 +13,7 @@ use Rattle.p2p_log_rules.specs.Tellings as telling
 use Rattle.p2p_log_rules.specs.Told.{when, tells, told}
 use Rattle.p2p_log_rules.specs.TrackerRows.{answers, was_answered}
 use Rattle.p2p_log_rules.proofs.Acted.{tells_as, found-append}
-use Rattle.p2p_log_rules.proofs.Bools.{and_false, or_false}
+use Rattle.p2p_log_rules.proofs.Bools.{or_false}
 use Rattle.p2p_log_rules.proofs.Families.{kind, has, untold_act}
 
 -- whether an act with this reply takes the answer to a question

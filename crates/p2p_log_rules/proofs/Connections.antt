@@ -1,5 +1,5 @@
 -- The connections of a node after one more entry, and in a longer log.
-use Rattle.std.proofs.Common.{◌≡◌, ℕ, Bool, true, false, cond, List, [], ◌∷◌, ◌++◌, map, length, Option, Some, None, refl, ap, sym, ◌∙◌, arith, eqb-true}
+use Rattle.std.proofs.Common.{◌≡◌, ℕ, Bool, true, false, cond, List, [], ◌∷◌, ◌++◌, length, Option, Some, None, refl, ap, sym, ◌∙◌, arith, eqb-true}
 use Rattle.std.specs.Prelude.{◌||◌, ◌&&◌, ◌==◌, not}
 use Rattle.std.specs.List.{list_any}
 use Rattle.std.specs.Option.{option_map}
@@ -9,10 +9,7 @@ use Rattle.std.proofs.lemmas.List.Folds.{list_any-append}
 use Rattle.std.proofs.lemmas.Option.{same_Some}
 use Rattle.p2p_log_rules.proofs.Bools.{and_false, and_true, or_false}
 use Rattle.p2p_log.specs.declared.queue.Side.{Side}
-use Rattle.p2p_log.specs.declared.item.Item.{Item}
 use Rattle.p2p_log.specs.declared.entry.Entry.{Entry}
-use Rattle.p2p_log.specs.declared.entry.Reply.{Reply}
-use Rattle.p2p_log.specs.declared.entry.Reply.TheVariants as reply
 use Rattle.p2p_log.specs.declared.event.Act.{Act}
 use Rattle.p2p_log.specs.declared.event.Act.TheVariants as act
 use Rattle.p2p_log_rules.specs.declared.row.Half.{Half}

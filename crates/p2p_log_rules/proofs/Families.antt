@@ -62,6 +62,7 @@ kind (telling.check_made m k c keys) = 44
 kind (telling.check_spent k) = 45
 kind (telling.reader_dropped m c) = 46
 kind (telling.question_answered e) = 74
+kind (telling.link_cut link) = 75
 kind (telling.update_taken m addresses) = 47
 kind (telling.arrival_judged m at from g) = 48
 
@@ -86,6 +87,7 @@ kinds_of (act.Resolve addresses k m) = 8 ∷ []
 kinds_of (act.Connect k from m to) = 9 ∷ 10 ∷ []
 kinds_of (act.Refuse k m) = 9 ∷ []
 kinds_of (act.Finish link ok) = 21 ∷ []
+kinds_of (act.Cut link) = 75 ∷ []
 kinds_of (act.Answer question) = 74 ∷ []
 kinds_of _ = []
 
@@ -127,6 +129,7 @@ within name at (act.Resolve addresses e m) = refl
 within name at (act.Connect e from m to) = (refl, refl)
 within name at (act.Refuse e m) = refl
 within name at (act.Finish link ok) = refl
+within name at (act.Cut link) = refl
 within name at (act.Answer question) = refl
 within name at _ = tt
 

@@ -21,7 +21,8 @@ use Rattle.p2p_log_rules.specs.declared.row.Row.{Row}
 use Rattle.p2p_log_rules.specs.Attempting.{Attempt, dial_rules_at, attempts_of, given_up_row, attempt_by, attempt_row}
 use Rattle.p2p_log_rules.specs.Connections.{live_half, is_begun, is_running}
 use Rattle.p2p_log_rules.specs.Dialing.{Dials, dials_of, due_row, dialer_turn, dialer_row}
-use Rattle.p2p_log_rules.specs.Dropping.{LinkEnd, other_side, is_dropped, dropping, dialing_end, arriving_end}
+use Rattle.p2p_log_rules.specs.Cutting.{is_broken}
+use Rattle.p2p_log_rules.specs.Dropping.{LinkEnd, other_side, dropping, dialing_end, arriving_end}
 use Rattle.p2p_log_rules.specs.Effect.{route_oldest, router_row, batch_size_at, batch, written_row, half_row, sender_row, send_step_row, retry_row, held_row, receiving_row, recv_step_row, row}
 use Rattle.p2p_log_rules.specs.Effect as effect
 use Rattle.p2p_log_rules.specs.Ending.{end_row}
@@ -135,13 +136,13 @@ module _ (configs : List Config) (log : List Entry) (at seed n conn : ℕ) where
       zero_size : (k : ℕ) → nat_lt 0 k ≡ false → k ≡ 0
       zero_size k h = grind (arith, nat_tests)
 
-  unwritten : (half : Half) (dropped : Bool) → written_row log n conn half dropped false [] ≡ only reply.Idle
+  unwritten : (half : Half) (broken : Bool) → written_row log n conn half broken false [] ≡ only reply.Idle
   unwritten half true = refl
   unwritten half false = refl
 
   batches : (half : Half) (cs hs ls : List Envelope) → line log (queue.High n conn) ≡ hs → line log (queue.Low n conn) ≡ ls
       → effect.told_to_end_row log n conn half cs (nat_lt 0 (batch_size_at configs n))
-      (written_row log n conn half (is_dropped log half.link (other_side half.writes)) false (batch log n conn (batch_size_at configs n)))
+      (written_row log n conn half (is_broken log half.link (other_side half.writes)) false (batch log n conn (batch_size_at configs n)))
       ≡ by_input (sender_serves configs log n conn (Some half))
       (first_of
       (None
@@ -151,17 +152,17 @@ module _ (configs : List Config) (log : List Entry) (at seed n conn : ℕ) where
       size : ℕ
       size = batch_size_at configs n
 
-      dropped : Bool
-      dropped = is_dropped log half.link (other_side half.writes)
+      broken : Bool
+      broken = is_broken log half.link (other_side half.writes)
 
       list_of : List Envelope → List Envelope
       list_of xs = xs
 
       all : Row
-      all = written_row log n conn half dropped false (batch log n conn size)
+      all = written_row log n conn half broken false (batch log n conn size)
 
       nothing : take size (line log (queue.High n conn) ++ line log (queue.Low n conn)) ≡ [] → all ≡ only reply.Idle
-      nothing none = ap (λ b. written_row log n conn half dropped false b) none ∙ unwritten half dropped
+      nothing none = ap (λ b. written_row log n conn half broken false b) none ∙ unwritten half broken
 
       take_none : (k : ℕ) → take k (list_of []) ≡ []
       take_none zero = refl
@@ -251,22 +252,22 @@ module _ (configs : List Config) (log : List Entry) (at seed n conn : ℕ) where
       held half x rest false is = retry_refused half (name_of x) x.item is
 
       received : Half → List Envelope → Bool → Row
-      received half [] dropped = cond dropped (end_row log n conn half ended.ReceiveFailed cause.ConnectionEnded []) (only reply.Idle)
-      received half (x ∷ fs) dropped = effect.frame_row configs log n conn at half x x.item
+      received half [] broken = cond broken (end_row log n conn half ended.ReceiveFailed cause.ConnectionEnded []) (only reply.Idle)
+      received half (x ∷ fs) broken = effect.frame_row configs log n conn at half x x.item
 
-      over : (half : Half) (fs : List Envelope) (dropped : Bool) → received half fs dropped
-          ≡ by_input (receiver_serves configs log n conn at (Some half)) (first_of (oldest_of (queue.Link half.link (other_side half.writes)) fs ∷ ready dropped fault ∷ []))
+      over : (half : Half) (fs : List Envelope) (broken : Bool) → received half fs broken
+          ≡ by_input (receiver_serves configs log n conn at (Some half)) (first_of (oldest_of (queue.Link half.link (other_side half.writes)) fs ∷ ready broken fault ∷ []))
       over half [] true = refl
       over half [] false = refl
-      over half (x ∷ fs) dropped = refl
+      over half (x ∷ fs) broken = refl
 
       of_lines : (half : Half) (hs fs : List Envelope) → held_row configs log n conn at half hs fs
           ≡ by_input (receiver_serves configs log n conn at (Some half))
           (first_of
           (held_inputs (is_admitted configs log n conn at) (queue.Held n conn) hs
-          (oldest_of (queue.Link half.link (other_side half.writes)) fs ∷ ready (is_dropped log half.link (other_side half.writes)) fault ∷ [])))
-      of_lines half [] [] = over half [] (is_dropped log half.link (other_side half.writes))
-      of_lines half [] (x ∷ fs) = over half (x ∷ fs) (is_dropped log half.link (other_side half.writes))
+          (oldest_of (queue.Link half.link (other_side half.writes)) fs ∷ ready (is_broken log half.link (other_side half.writes)) fault ∷ [])))
+      of_lines half [] [] = over half [] (is_broken log half.link (other_side half.writes))
+      of_lines half [] (x ∷ fs) = over half (x ∷ fs) (is_broken log half.link (other_side half.writes))
       of_lines half (x ∷ rest) fs = held half x rest (is_admitted configs log n conn at x.item) refl
 
       runs_on : (half : Half) (running : Bool) → cond running (effect.receiver_row configs log n conn at half) (only reply.Idle)

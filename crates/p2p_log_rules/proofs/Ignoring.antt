@@ -2,7 +2,6 @@
 use Rattle.std.proofs.Common.{◌≡◌, Bool, true, false, cond, List, [], ◌∷◌, ◌++◌, refl, ap, sym, subst, ◌∙◌, append_assoc, append-nil, Option, Some, None}
 use Rattle.std.specs.Prelude.{◌||◌, ◌&&◌, flat_map, is_some, unwrap_or}
 use Rattle.std.specs.List.{list_any}
-use Rattle.p2p_log_rules.proofs.Bools.{and_false, and_true}
 use Rattle.p2p_log.specs.declared.entry.Entry.{Entry}
 use Rattle.p2p_log_rules.specs.Tellings.{Telling, last_or, any_or}
 use Rattle.p2p_log_rules.proofs.Tellings.{or_left, or_right}

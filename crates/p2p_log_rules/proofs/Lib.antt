@@ -8,6 +8,7 @@ pub mod Channels
 pub mod Checks
 pub mod Closing
 pub mod Connections
+pub mod Cutting
 pub mod Dialed
 pub mod Dialing
 pub mod Dropping

@@ -16,8 +16,9 @@ use Rattle.p2p_log.specs.declared.event.Act.TheVariants as act
 use Rattle.p2p_log.specs.Lines.{name_of, line}
 use Rattle.p2p_log_rules.specs.declared.row.Half.{Half}
 use Rattle.p2p_log_rules.specs.declared.row.Row.{Row}
-use Rattle.p2p_log_rules.specs.Connections.{is_done, begins, is_begun, has_run, is_running, live_half}
-use Rattle.p2p_log_rules.specs.Dropping.{other_side, is_dropped}
+use Rattle.p2p_log_rules.specs.Connections.{is_done, is_begun, has_run, is_running, live_half}
+use Rattle.p2p_log_rules.specs.Cutting.{is_broken}
+use Rattle.p2p_log_rules.specs.Dropping.{other_side}
 use Rattle.p2p_log.specs.declared.entry.Reply.TheVariants as reply
 use Rattle.p2p_log_rules.specs.Effect.{only, takes_oldest, write_row, batch_size_at, beside_ping, batch, written_row, told_to_end_row, running_row, half_row, sender_row, send_step_row, row, effect}
 use Rattle.p2p_log_rules.specs.Facts.{is_up, item_named, taken}
@@ -66,8 +67,8 @@ write_pings log q false (x ∷ xs) h done =
     ∙ too_many (length (map (λ (y : Envelope). y.item) xs)) (length (map (put_item q) xs)) (length-map (λ (y : Envelope). y.item) xs ∙ sym (length-map (put_item q) xs)))
 
 module _ (configs : List Config) (log : List Entry) (n conn at : ℕ) where
-  written_pings : (half : Half) (dropped due : Bool) (xs : List Envelope) → AreRecorded log xs → Pings log due (written_row log n conn half dropped due xs)
-  written_pings half dropped false [] h done = cc
+  written_pings : (half : Half) (broken due : Bool) (xs : List Envelope) → AreRecorded log xs → Pings log due (written_row log n conn half broken due xs)
+  written_pings half broken false [] h done = cc
   written_pings half true false (x ∷ xs) h done = cc
   written_pings half true true xs h done = cc
   written_pings half false false (x ∷ xs) h done = write_pings log (queue.Link half.link half.writes) false (x ∷ xs) h done
@@ -90,9 +91,9 @@ module _ (configs : List Config) (log : List Entry) (n conn at : ℕ) where
   running_pings : (half : Half) (due : Bool) → Pings log due (running_row configs log n conn half due)
   running_pings half due =
       let most : ℕ = beside_ping due (batch_size_at configs n) in
-      let dropped : Bool = is_dropped log half.link (other_side half.writes) in
-      told_pings half (line log (queue.Control n conn)) (nat_lt 0 most) due (written_row log n conn half dropped due (batch log n conn most))
-      (written_pings half dropped due (batch log n conn most) (batch_recorded most))
+      let broken : Bool = is_broken log half.link (other_side half.writes) in
+      told_pings half (line log (queue.Control n conn)) (nat_lt 0 most) due (written_row log n conn half broken due (batch log n conn most))
+      (written_pings half broken due (batch log n conn most) (batch_recorded most))
 
   -- a ping is due of one that has begun and runs alone
   abbrev pub RunsWhenDue : Type 0

@@ -97,6 +97,7 @@ module _ (test : Telling → Bool) (name at : ℕ) where
   NoneTold (act.Connect e from m to) = (test (telling.dial_answered m e name) ≡ false) × (test (telling.link_opened m e name to) ≡ false)
   NoneTold (act.Refuse e m) = test (telling.dial_answered m e name) ≡ false
   NoneTold (act.Finish link ok) = test (telling.exchange_ended link) ≡ false
+  NoneTold (act.Cut link) = test (telling.link_cut link) ≡ false
   NoneTold (act.Answer question) = test (telling.question_answered question) ≡ false
   NoneTold _ = Unit {0}
 
@@ -253,5 +254,6 @@ module _ (test : Telling → Bool) (name at : ℕ) where
   quiet_act ts before seed r items puts (act.Connect e from m to) h = connect_quiet m e to r puts h.0 h.1
   quiet_act ts before seed r items puts (act.Refuse e m) h = done_quiet test r (telling.dial_answered m e name ∷ []) (one (telling.dial_answered m e name) h)
   quiet_act ts before seed r items puts (act.Finish link ok) h = done_quiet test r (telling.exchange_ended link ∷ []) (one (telling.exchange_ended link) h)
+  quiet_act ts before seed r items puts (act.Cut link) h = done_quiet test r (telling.link_cut link ∷ []) (one (telling.link_cut link) h)
   quiet_act ts before seed r items puts (act.Answer question) h = when_quiet test (is_peer_set r) (telling.question_answered question ∷ []) (one (telling.question_answered question) h)
   quiet_act ts before seed r items puts _ h = refl

@@ -5,6 +5,7 @@ use Rattle.std.specs.Prelude.{◌==◌, ◌&&◌, ◌||◌}
 use Rattle.std.proofs.lemmas.Bool.{false≢true}
 use Rattle.p2p_log.specs.declared.queue.Queue.{Queue}
 use Rattle.p2p_log.specs.declared.queue.Queue.TheVariants as queue
+use Rattle.p2p_log.specs.declared.queue.Side.TheVariants as side
 use Rattle.p2p_log.specs.declared.entry.Entry.{Entry}
 use Rattle.p2p_log.specs.declared.asked.Asked.TheVariants as ask
 use Rattle.p2p_log.specs.declared.event.Act.{Act}
@@ -135,6 +136,7 @@ writes configs log (act.Resolve addresses e n) q = same_queue (queue.Attempt n e
 writes configs log (act.Connect e from n to) q = same_queue (queue.Attempt n e) q || same_queue (queue.Arrivals to) q
 writes configs log (act.Refuse e n) q = same_queue (queue.Attempt n e) q
 writes configs log (act.Finish link ok) q = in_ends (openings_of log link) q
+writes configs log (act.Cut link) q = same_queue (queue.Link link side.Out) q || same_queue (queue.Link link side.In) q
 writes configs log _ q = false
 
 -- of two queues one passes a test and the other does not, so they are two

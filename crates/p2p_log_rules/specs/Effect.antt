@@ -33,7 +33,8 @@ use Rattle.p2p_log.specs.Lines.{line, live, name_of, stands_in, stays}
 use Rattle.p2p_log_rules.specs.Facts.{is_up, channels, capacity_in, capacity_for, subscribers, routes, with_route, keys_in, route_to}
 use Rattle.p2p_log_rules.specs.Connections.{live_half, is_begun, is_running, is_ended}
 pub use Rattle.p2p_log_rules.specs.Dropping.{other_side}
-use Rattle.p2p_log_rules.specs.Dropping.{is_dropped, attempt_step_row, handshake_step_row, listener_step_row}
+use Rattle.p2p_log_rules.specs.Cutting.{is_broken, cut_row}
+use Rattle.p2p_log_rules.specs.Dropping.{attempt_step_row, handshake_step_row, listener_step_row}
 use Rattle.p2p_log_rules.specs.Ending.{end_row}
 use Rattle.p2p_log_rules.specs.Frames.{frame_of, message_in, is_ping_in}
 pub use Rattle.p2p_log_rules.specs.Full.{router_capacity}
@@ -270,9 +271,9 @@ beside_ping false size = size
 abbrev pub batch : List Entry → ℕ → ℕ → ℕ → List Envelope
 batch log n conn most = take most (line log (queue.High n conn) ++ line log (queue.Low n conn))
 
--- to write a batch: where the other end of the link was dropped, the connection ends in its place
+-- to write a batch: where the other end of the link was dropped, or the link was cut, the connection ends in its place
 abbrev pub written_row : List Entry → ℕ → ℕ → Half → Bool → Bool → List Envelope → Row
-written_row log n conn half dropped false [] = only reply.Idle
+written_row log n conn half broken false [] = only reply.Idle
 written_row log n conn half true due xs = end_row log n conn half ended.SendFailed cause.ConnectionEnded xs
 written_row log n conn half false due xs = write_row (queue.Link half.link half.writes) due xs
 
@@ -286,7 +287,7 @@ abbrev pub running_row : List Config → List Entry → ℕ → ℕ → Half →
 running_row configs log n conn half due =
     let most = beside_ping due (batch_size_at configs n) in
     told_to_end_row log n conn half (line log (queue.Control n conn)) (nat_lt 0 most)
-    (written_row log n conn half (is_dropped log half.link (other_side half.writes)) due (batch log n conn most))
+    (written_row log n conn half (is_broken log half.link (other_side half.writes)) due (batch log n conn most))
 
 -- it begins: the tracker and the router are told whom it is with
 abbrev pub begin_row : ℕ → ℕ → Key → Row
@@ -356,10 +357,10 @@ module _ (configs : List Config) (log : List Entry) (n conn at : ℕ) (half : Ha
   frame_row x (item.Frame None frame) = ping_row x (is_ping_in frame (limit_at configs n))
   frame_row x _ = only reply.Idle
 
-  -- where no frame is in flight and the other end was dropped, none will come
+  -- where no frame is in flight and the other end was dropped, or the link was cut, none will come
   abbrev pub receive_row : List Envelope → Row
   receive_row [] =
-      cond (is_dropped log half.link (other_side half.writes))
+      cond (is_broken log half.link (other_side half.writes))
       (end_row log n conn half ended.ReceiveFailed cause.ConnectionEnded [])
       (only reply.Idle)
   receive_row (x ∷ _) = frame_row x x.item
@@ -416,6 +417,7 @@ row configs log at seed (act.Resolve addresses e n) = resolve_row configs log ad
 row configs log at seed (act.Connect e from n to) = connect_row configs log e from n to
 row configs log at seed (act.Refuse e n) = refuse_row configs log e n
 row configs log at seed (act.Finish link ok) = finish_row configs log link ok
+row configs log at seed (act.Cut link) = cut_row log link
 row configs log at seed (act.Tracker n) = tracker_row configs log n at
 
 abbrev pub entry_of : Event → Row → Entry

@@ -15,8 +15,9 @@ use Rattle.p2p_log_rules.specs.declared.row.Half.{Half}
 use Rattle.p2p_log_rules.specs.declared.row.Row.{Row}
 use Rattle.p2p_log_rules.specs.Attempting.{Attempt, attempts_of}
 use Rattle.p2p_log_rules.specs.Connections.{live_half, is_begun, is_running}
+use Rattle.p2p_log_rules.specs.Cutting.{is_broken}
 use Rattle.p2p_log_rules.specs.Dialing.{dials_of}
-use Rattle.p2p_log_rules.specs.Dropping.{other_side, is_dropped}
+use Rattle.p2p_log_rules.specs.Dropping.{other_side}
 use Rattle.p2p_log_rules.specs.Effect.{batch_size_at}
 use Rattle.p2p_log_rules.specs.Facts.{channels, capacity_in, is_up}
 use Rattle.p2p_log_rules.specs.Handshakes.{is_handshaking, is_finished}
@@ -59,7 +60,7 @@ pub data Input : Type 0 where
   due : Input
   -- a connection that has not begun
   begins : Input
-  -- the other end of its link was dropped
+  -- the other end of its link was dropped, or its link was cut
   fault : Input
 
 -- the first of these that is ready
@@ -99,7 +100,7 @@ is_admitted configs log n conn at _ = false
 abbrev pub link_inputs : List Entry → Option Half → List (Option Input)
 link_inputs log None = []
 link_inputs log (Some half) =
-    oldest log (queue.Link half.link (other_side half.writes)) ∷ ready (is_dropped log half.link (other_side half.writes)) fault ∷ []
+    oldest log (queue.Link half.link (other_side half.writes)) ∷ ready (is_broken log half.link (other_side half.writes)) fault ∷ []
 
 -- what is held, once its quota admits it; with nothing held, what comes over its link
 abbrev pub held_inputs : (Item → Bool) → Queue → List Envelope → List (Option Input) → List (Option Input)

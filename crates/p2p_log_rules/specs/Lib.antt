@@ -4,6 +4,7 @@ pub mod Attempting
 pub mod Checking
 pub mod Closing
 pub mod Connections
+pub mod Cutting
 pub mod Dialed
 pub mod Dialing
 pub mod Dropping

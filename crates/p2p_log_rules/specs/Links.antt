@@ -1,5 +1,5 @@
 -- The links, by what was told: between whom keys are exchanged, what has their listening ends, and the row of the end of an exchange.
-use Rattle.std.specs.Prelude.{ℕ, ◌==◌, ◌&&◌, Bool, true, false, cond, List, [], ◌∷◌, ◌++◌, Option, Some, None, is_some}
+use Rattle.std.specs.Prelude.{ℕ, ◌==◌, ◌&&◌, Bool, true, false, not, cond, List, [], ◌∷◌, ◌++◌, Option, Some, None, is_some}
 use Rattle.std.specs.Option.{option_map}
 use Rattle.p2p_base.specs.declared.key.Key.{Key}
 use Rattle.p2p_log.specs.declared.config.Config.{Config}
@@ -14,6 +14,7 @@ use Rattle.p2p_log_rules.specs.declared.row.Opening.{Opening}
 use Rattle.p2p_log_rules.specs.declared.row.ListeningEnd.{ListeningEnd}
 use Rattle.p2p_log_rules.specs.declared.row.ListeningEnd.TheVariants as listening
 use Rattle.p2p_log_rules.specs.Attempting.{Attempt, attempts_of}
+use Rattle.p2p_log_rules.specs.Cutting.{is_cut}
 use Rattle.p2p_log_rules.specs.Facts.{key_at}
 use Rattle.p2p_log_rules.specs.Handshakes.{is_accepted}
 use Rattle.p2p_log_rules.specs.Rows.{only}
@@ -58,7 +59,7 @@ abbrev pub accepts : List Entry → ℕ → Option ListeningEnd → Bool
 accepts log n (Some (listening.Handshake h)) = is_accepted log n h
 accepts log n _ = false
 
--- whether keys were exchanged, by whether both ends stand, whether it is said so and the key is the one that was dialed, and whether the
+-- whether keys were exchanged, by whether both ends stand over a link that was not cut, whether it is said so and the key is the one that was dialed, and whether the
 -- listening side has accepted: it waits for that
 abbrev pub exchanged : Bool → Bool → Bool → Option Bool
 exchanged false agree accepted = Some false
@@ -80,18 +81,18 @@ finished_row o dialing listening None = only reply.Pending
 finished_row o dialing listening (Some ok) =
     record { reply = reply.Ok; takes = []; puts = dialing_puts o.node o.attempt ok dialing ++ listening_puts o.to ok listening; ends = [] }
 
--- whether both ends stand, and what is said of the keys agrees with them, by the key that was dialed
-abbrev pub verdict : List Config → List Entry → Bool → ℕ → Option Key → Option ListeningEnd → Option Bool
-verdict configs log ok to dialed listening =
-    exchanged (is_some dialed && is_some listening) (ok && is_dialed (key_at configs to) dialed) (accepts log to listening)
+-- whether both ends stand and the link was not cut, and what is said of the keys agrees with them, by the key that was dialed
+abbrev pub verdict : List Config → List Entry → Bool → ℕ → Bool → Option Key → Option ListeningEnd → Option Bool
+verdict configs log ok to cut dialed listening =
+    exchanged ((is_some dialed && is_some listening) && not cut) (ok && is_dialed (key_at configs to) dialed) (accepts log to listening)
 
-abbrev pub finish_by : List Config → List Entry → Bool → Opening → Option Attempt → Option ListeningEnd → Row
-finish_by configs log ok o dialing listening =
-    finished_row o dialing listening (verdict configs log ok o.to (option_map (λ (a : Attempt). a.key) dialing) listening)
+abbrev pub finish_by : List Config → List Entry → Bool → Bool → Opening → Option Attempt → Option ListeningEnd → Row
+finish_by configs log ok cut o dialing listening =
+    finished_row o dialing listening (verdict configs log ok o.to cut (option_map (λ (a : Attempt). a.key) dialing) listening)
 
 -- the exchange over a link ends, once
 abbrev pub finish_row : List Config → List Entry → ℕ → Bool → Row
 finish_row configs log link ok = elim (openings_of log link) [
   | None ↦ only reply.Gone
-  | Some o ↦ finish_by configs log ok o (attempts_of configs log o.node o.attempt) (listening_ends_of log o.to link)
+  | Some o ↦ finish_by configs log ok (is_cut log link) o (attempts_of configs log o.node o.attempt) (listening_ends_of log o.to link)
 ]

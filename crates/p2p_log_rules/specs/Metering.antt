@@ -1,12 +1,11 @@
 -- What the quotas of a connection admit of what comes over it, by the log: its pings, and the messages of each channel.
-use Rattle.std.specs.Prelude.{ℕ, ◌/◌, max, Bool, true, false, ◌==◌, ◌&&◌, not, cond, List, [], ◌∷◌, flat_map, Option, Some, None, slice_get, Result, Ok, Err}
+use Rattle.std.specs.Prelude.{ℕ, ◌/◌, max, Bool, true, false, ◌==◌, ◌&&◌, cond, List, [], ◌∷◌, flat_map, Option, Some, None, slice_get, Result, Ok, Err}
 use Rattle.p2p_runtime.specs.QuotaLaw.{Rate as Quota, rate_of, admits}
 use Rattle.p2p_wire.specs.declared.error.CodecError.{CodecError}
 use Rattle.p2p_wire.specs.declared.frame.Message.{Message}
 use Rattle.p2p_wire.specs.declared.frame.Message.TheVariants as message
 use Rattle.p2p_wire.specs.Frame.{decode_frame}
 use Rattle.p2p_log.specs.declared.config.Config.{Config}
-use Rattle.p2p_log.specs.declared.queue.Queue.{Queue}
 use Rattle.p2p_log.specs.declared.item.Item.{Item}
 use Rattle.p2p_log.specs.declared.item.Item.TheVariants as item
 use Rattle.p2p_log.specs.declared.entry.Entry.{Entry}

@@ -3,7 +3,6 @@ use Rattle.std.specs.Prelude.{ℕ, ◌-◌, Bool, true, false, nat_lt, List, [],
 use Rattle.p2p_tracker_calls.specs.declared.call.Call.TheVariants as call
 use Rattle.p2p_log.specs.declared.config.Config.{Config}
 use Rattle.p2p_log.specs.declared.queue.Queue.TheVariants as queue
-use Rattle.p2p_log.specs.declared.item.Envelope.{Envelope}
 use Rattle.p2p_log.specs.declared.end.Cause.TheVariants as cause
 use Rattle.p2p_log.specs.declared.entry.Ended.TheVariants as ended
 use Rattle.p2p_log.specs.declared.entry.Entry.{Entry}
@@ -13,8 +12,9 @@ use Rattle.p2p_log_rules.specs.declared.row.Half.{Half}
 use Rattle.p2p_log_rules.specs.declared.row.Row.{Row}
 use Rattle.p2p_log_rules.specs.Attempting.{Attempt, dial_rules_at, attempts_of, given_up_row, attempt_took_row}
 use Rattle.p2p_log_rules.specs.Connections.{live_half, is_ended}
+use Rattle.p2p_log_rules.specs.Cutting.{is_broken}
 use Rattle.p2p_log_rules.specs.Dialing.{Dials, dials_of, due_row, answer_taken_row}
-use Rattle.p2p_log_rules.specs.Dropping.{other_side, is_dropped}
+use Rattle.p2p_log_rules.specs.Dropping.{other_side}
 use Rattle.p2p_log_rules.specs.Effect.{route_row, batch_size_at, batch, written_row, begin_row, frame_row, retry_row}
 use Rattle.p2p_log_rules.specs.Effect as effect
 use Rattle.p2p_log_rules.specs.Ending.{end_row}
@@ -78,11 +78,11 @@ sender_serves configs log n conn (Some half) begins = begin_row n conn half.peer
 sender_serves configs log n conn (Some half) (takes (queue.Ready m e) x rest) = taken_row reply.Ok x
 sender_serves configs log n conn (Some half) (takes (queue.Control m e) x rest) = end_row log n conn half ended.Killed cause.ConnectionEnded (x ∷ [])
 sender_serves configs log n conn (Some half) (takes q x rest) =
-    written_row log n conn half (is_dropped log half.link (other_side half.writes)) false (batch log n conn (batch_size_at configs n))
+    written_row log n conn half (is_broken log half.link (other_side half.writes)) false (batch log n conn (batch_size_at configs n))
 sender_serves configs log n conn (Some half) _ =
     let most = batch_size_at configs n - 1 in
     effect.told_to_end_row log n conn half (line log (queue.Control n conn)) (nat_lt 0 most)
-    (written_row log n conn half (is_dropped log half.link (other_side half.writes)) true (batch log n conn most))
+    (written_row log n conn half (is_broken log half.link (other_side half.writes)) true (batch log n conn most))
 
 -- a receiving half: what is held, or a frame; else none will come
 abbrev pub receiver_serves : List Config → List Entry → ℕ → ℕ → ℕ → Option Half → Input → Row

@@ -1,12 +1,10 @@
 -- The connections that a node's spawner made, by the log, and the row of its step.
-use Rattle.std.specs.Prelude.{ℕ, Bool, false, ◌==◌, cond, List, ◌∷◌, Option, Some, None}
+use Rattle.std.specs.Prelude.{ℕ, cond, List, ◌∷◌, Option, Some, None}
 use Rattle.p2p_log.specs.declared.queue.Queue.TheVariants as queue
 use Rattle.p2p_log.specs.declared.item.Item.{Item}
 use Rattle.p2p_log.specs.declared.item.Item.TheVariants as item
 use Rattle.p2p_log.specs.declared.entry.Entry.{Entry}
 use Rattle.p2p_log.specs.declared.entry.Reply.TheVariants as reply
-use Rattle.p2p_log.specs.declared.event.Act.{Act}
-use Rattle.p2p_log.specs.declared.event.Act.TheVariants as act
 use Rattle.p2p_log.specs.Lines.{line}
 use Rattle.p2p_log_rules.specs.declared.row.Row.{Row}
 use Rattle.p2p_log_rules.specs.Facts.{is_up}

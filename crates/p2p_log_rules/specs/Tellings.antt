@@ -47,6 +47,8 @@ pub data Telling : Type 0 where
   channel_registered : (node channel : ℕ) (rate : Rate) → Telling
   -- the exchange of keys over a link ended
   exchange_ended : (link : ℕ) → Telling
+  -- a link was cut
+  link_cut : (link : ℕ) → Telling
   -- a node's listener took the arrival over a link, for the handshake of this name where it admitted it
   arrival_taken : (node link : ℕ) (handshake : Option ℕ) → Telling
   -- a handshake began, of this name

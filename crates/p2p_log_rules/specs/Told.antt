@@ -211,6 +211,7 @@ module _ (ts : List Telling) (before : List Entry) (name at seed : ℕ) (r : Rep
   act_tells (act.Connect k from n to) = done_tells r (telling.dial_answered n k name ∷ link_tells n k name to puts)
   act_tells (act.Refuse k n) = done_tells r (telling.dial_answered n k name ∷ [])
   act_tells (act.Finish link ok) = done_tells r (telling.exchange_ended link ∷ [])
+  act_tells (act.Cut link) = done_tells r (telling.link_cut link ∷ [])
 
 -- what an entry tells, given what was told and the entries before it
 unfoldable pub tells : List Telling → List Entry → Entry → List Telling

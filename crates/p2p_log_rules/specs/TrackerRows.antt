@@ -1,5 +1,5 @@
 -- The rows of a node's tracker: what it is asked, its step, and what those who asked take.
-use Rattle.std.specs.Prelude.{ℕ, Bool, true, false, ◌==◌, ◌&&◌, cond, nat_lt, List, [], ◌∷◌, flat_map, filter, length, Option, Some, None, slice_get}
+use Rattle.std.specs.Prelude.{ℕ, Bool, false, ◌==◌, cond, nat_lt, List, [], ◌∷◌, flat_map, filter, length, Option, Some, None, slice_get}
 use Rattle.std.specs.List.{list_any}
 use Rattle.std.specs.Map.{keys_of}
 use Rattle.p2p_base.specs.declared.key.Key.{Key}

@@ -1,5 +1,5 @@
 -- What stands of a node's tracker, by the log: the calls of its directory, and who subscribed.
-use Rattle.std.specs.Prelude.{ℕ, Bool, false, ◌==◌, cond, List, [], ◌∷◌, map, flat_map, reverse, Some, None, slice_get}
+use Rattle.std.specs.Prelude.{ℕ, false, ◌==◌, cond, List, [], ◌∷◌, map, flat_map, reverse, Some, None, slice_get}
 use Rattle.p2p_address.specs.declared.peer.Address.{Address}
 use Rattle.p2p_base.specs.declared.key.Key.{Key}
 use Rattle.p2p_tracker_calls.specs.declared.call.Call.{Call}
@@ -8,8 +8,6 @@ use Rattle.p2p_tracker_calls.specs.Jitter.{jitter_of}
 use Rattle.p2p_tracker_calls.specs.Rules.{Rules}
 use Rattle.p2p_log.specs.declared.config.Config.{Config}
 use Rattle.p2p_log.specs.declared.entry.Entry.{Entry}
-use Rattle.p2p_log.specs.declared.event.Act.{Act}
-use Rattle.p2p_log.specs.declared.event.Act.TheVariants as act
 use Rattle.p2p_log_rules.specs.Tellings.{Telling}
 use Rattle.p2p_log_rules.specs.Tellings as telling
 use Rattle.p2p_log_rules.specs.Told.{told}

@@ -1,5 +1,5 @@
 -- Valid input: configurations and events that may be asked for. It reads the input alone.
-use Rattle.std.specs.Prelude.{ℕ, ◌+◌, ◌*◌, ◌^◌, Bool, true, false, ◌==◌, ◌&&◌, not, cond, nat_le, nat_lt, List, [], ◌∷◌, ◌++◌, length, Option, Some, None, slice_get, is_some}
+use Rattle.std.specs.Prelude.{ℕ, ◌+◌, ◌*◌, ◌^◌, Bool, false, ◌==◌, ◌&&◌, not, cond, nat_le, nat_lt, List, [], ◌∷◌, ◌++◌, length, Option, Some, None, slice_get, is_some}
 use Rattle.std.specs.List.{list_any}
 use Rattle.p2p_base.specs.declared.key.Key.{Key}
 use Rattle.p2p_log.specs.declared.config.Config.{Config}
@@ -157,6 +157,7 @@ may_act configs events (act.Resolve addresses e n) = nat_lt n (length configs) &
 may_act configs events (act.Connect e from n to) = nat_lt n (length configs) && (nat_lt to (length configs) && names_dialer events n e)
 may_act configs events (act.Refuse e n) = nat_lt n (length configs) && names_dialer events n e
 may_act configs events (act.Finish link ok) = names_link configs events link
+may_act configs events (act.Cut link) = names_link configs events link
 
 -- moments never go back
 unfoldable pub is_valid_event : List Config → List Event → Event → Bool

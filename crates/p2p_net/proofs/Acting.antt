@@ -39,6 +39,7 @@ use Rattle.p2p_net_node.proofs.Frames.{part_frame}
 use Rattle.p2p_net_node.proofs.Performing.{asked, Performs, Simulates}
 use Rattle.p2p_net_dialing.proofs.DialAnswers.{refuse_performs}
 use Rattle.p2p_net_dialing.proofs.Arrivals.{link_simulates}
+use Rattle.p2p_net_dialing.proofs.Cutting.{cut_simulates}
 use Rattle.p2p_net_dialing.proofs.Exchanged.{finish_simulates}
 use Rattle.p2p_net_dialing.proofs.Resolving.{resolve_performs}
 use Rattle.p2p_net_calls.proofs.Calling.{register_performs, start_performs, read_performs}
@@ -46,7 +47,7 @@ use Rattle.p2p_net_calls.proofs.Closing.{close_performs}
 use Rattle.p2p_net_calls.proofs.Checking.{check_performs, send_checked_performs}
 use Rattle.p2p_net_calls.proofs.Offering.{send_performs}
 use Rattle.p2p_net_dialing.proofs.Dialing.{dialer_performs}
-use Rattle.p2p_net_dialing.proofs.Handshaking.{handshake_performs}
+use Rattle.p2p_net_dialing.proofs.HandshakeLinks.{handshake_performs}
 use Rattle.p2p_net_dialing.proofs.Listened.{listener_performs}
 use Rattle.p2p_log_laws.proofs.HandedSides.{attempt_dialed, handshake_dialed}
 use Rattle.p2p_net_connecting.proofs.SpawnerStep.{spawner_performs}
@@ -96,6 +97,7 @@ node_performs configs log moment seed (act.Resolve addresses e n) x y l links r 
 node_performs configs log moment seed (act.Refuse e n) x y l links r s t lawful valid late one d = refuse_performs configs log moment seed e n x y l links r s t d.0.0 d.0.1 d.1
 node_performs configs log moment seed (act.Connect e from n m) x y l links r s t lawful valid late one d = cc
 node_performs configs log moment seed (act.Finish link ok) x y l links r s t lawful valid late one d = cc
+node_performs configs log moment seed (act.Cut link) x y l links r s t lawful valid late one d = cc
 
 -- the parts of the other nodes are not named
 part_elsewhere : (p q : Part) (n m : ℕ) → (n == m) ≡ false → same_place (at p n) (at q m) ≡ false
@@ -112,6 +114,7 @@ unnamed_at true ps p n m ne = parts_elsewhere ps p n m ne
 others_unnamed : (log : List Entry) (a : Act) (p : Part) (m : ℕ) → meeting_of a ≡ None → (node_of log a == m) ≡ false → names log a (at p m) ≡ false
 others_unnamed log (act.Connect e from n k) p m one ne = cc
 others_unnamed log (act.Finish link ok) p m one ne = cc
+others_unnamed log (act.Cut link) p m one ne = cc
 others_unnamed log a p m one ne = unnamed_at (names_links a) (parts_named a) p (node_of log a) m ne
 
 -- a node that an act does not name
@@ -163,6 +166,9 @@ by_meeting configs log moment seed (act.Connect e from n m) (Some how) nodes new
     (subst (λ (h : Meeting). Meets h (length log) nodes new l links r) (sym (same_Some (meeting.Link e from (record { dials = n; listens = m })) how is)) d)
 by_meeting configs log moment seed (act.Finish link ok) (Some how) nodes new l links r s lawful valid late is d =
     finish_simulates configs log moment seed link ok nodes new l links r s (subst (λ (h : Meeting). Meets h (length log) nodes new l links r) (sym (same_Some (meeting.Finish link ok) how is)) d)
+by_meeting configs log moment seed (act.Cut link) (Some how) nodes new l links r s lawful valid late is d =
+    cut_simulates configs log moment seed link nodes new l links r s (λ m. unbegun_late configs (events_of log) log lawful m (length log) (no_more (length log)))
+    (subst (λ (h : Meeting). Meets h (length log) nodes new l links r) (sym (same_Some (meeting.Cut link) how is)) d)
 by_meeting configs log moment seed a (Some how) nodes new l links r s lawful valid late is d = cc
 
 pub simulates : (configs : List Config) (log : List Entry) (ev : Event) (nodes new : List Node) (l links : Links) (r : Row) → WorldStands configs log nodes l → IsLawful configs (events_of log) log

@@ -35,6 +35,7 @@ NodeDoes k n at seed (act.Recv c m) old new l links r = Reads c old new r × (li
 NodeDoes k n at seed (act.Close c m) old new l links r = Closes c old new r × (links ≡ l)
 NodeDoes k n at seed (act.Connect e from m to) old new l links r = Stays old new r (only reply.Idle) × (links ≡ l)
 NodeDoes k n at seed (act.Finish link ok) old new l links r = Stays old new r (only reply.Idle) × (links ≡ l)
+NodeDoes k n at seed (act.Cut link) old new l links r = Stays old new r (only reply.Idle) × (links ≡ l)
 NodeDoes k n at seed (act.Ask what m) old new l links r = ((r ≡ ask_answer old.tracker n k what) × Tracks (after_asking old.tracker k what) old new) × (links ≡ l)
 NodeDoes k n at seed (act.Answer e) old new l links r = (Answers n e old.tracker new.tracker r × Tracks new.tracker old new) × (links ≡ l)
 NodeDoes k n at seed (act.Next e) old new l links r = (Continues n e old.tracker new.tracker r × Tracks new.tracker old new) × (links ≡ l)

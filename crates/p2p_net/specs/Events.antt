@@ -7,6 +7,7 @@ use Rattle.p2p_log_rules.specs.Effect.{entry_of}
 use Rattle.p2p_net_links.specs.declared.links.Links.{Links}
 use Rattle.p2p_net.specs.Acts.{NodeDoes}
 use Rattle.p2p_net_node.specs.declared.node.Node.{Node}
+use Rattle.p2p_net_dialing.specs.Cutting.{IsCut}
 use Rattle.p2p_net_dialing.specs.Finishing.{IsFinished}
 use Rattle.p2p_net_dialing.specs.Linking.{IsLinked}
 use Rattle.p2p_net_node.specs.Meetings.{meeting_of}
@@ -22,6 +23,7 @@ OneDoes k n ev old new l links r =
 abbrev pub Meets : Meeting → ℕ → List Node → List Node → Links → Links → Row → Type 0
 Meets (meeting.Link e from ends) k old new l links r = IsLinked k e ends.dials ends.listens from old new l links r
 Meets (meeting.Finish link ok) k old new l links r = IsFinished k link ok old new l links r
+Meets (meeting.Cut link) k old new l links r = IsCut link old new l links r
 
 abbrev pub DoesOn : Option Meeting → ℕ → ℕ → Event → List Node → List Node → Links → Links → Row → Type 0
 DoesOn None k n ev old new l links r = OneDoes k n ev old new l links r

@@ -126,6 +126,7 @@ fn act_at(node: &mut Node, turn: Turn, links: &mut Links, event: &Event) -> Resu
         Act::Close { channel, .. } => Ok(close(node, turn, *channel)?),
         Act::Connect { .. } => Ok(only(turn.alloc, Reply::Idle)),
         Act::Finish { .. } => Ok(only(turn.alloc, Reply::Idle)),
+        Act::Cut { .. } => Ok(only(turn.alloc, Reply::Idle)),
         Act::Ask { asked, .. } => Ok(node.tracker.ask(turn, asked)?),
         Act::Answer { question } => Ok(node.tracker.answer(turn, *question)?),
         Act::Next { question } => Ok(node.tracker.next(turn, *question)?),

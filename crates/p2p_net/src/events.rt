@@ -52,6 +52,7 @@ fn meet(
             ends,
         } => Ok(link(alloc, nodes, links, entry, attempt, from, ends)?),
         Meeting::Finish { link, ok } => Ok(finish(alloc, nodes, links, entry, link, ok)?),
+        Meeting::Cut { link } => Ok(links.cut(alloc, link)?),
     }
 }
 

@@ -91,6 +91,7 @@ pub(crate) fn node_of(log: &[Entry], act: &Act) -> u64
         Act::Connect { node, .. } => *node,
         Act::Refuse { node, .. } => *node,
         Act::Finish { link, .. } => nodes_linked(log, *link).dials,
+        Act::Cut { link } => nodes_linked(log, *link).dials,
     }
 }
 
@@ -101,6 +102,7 @@ pub(crate) fn other_of(log: &[Entry], first: u64, act: &Act) -> u64
     match act {
         Act::Connect { to, .. } => *to,
         Act::Finish { link, .. } => nodes_linked(log, *link).listens,
+        Act::Cut { link } => nodes_linked(log, *link).listens,
         _ => first,
     }
 }

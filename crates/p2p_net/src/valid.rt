@@ -122,6 +122,7 @@ fn may_ask(log: &[Entry], node: &Node, act: &Act) -> bool
         Act::Connect { attempt, node, .. } => is_dialed(log, *attempt, *node),
         Act::Refuse { attempt, node } => is_dialed(log, *attempt, *node),
         Act::Finish { link, .. } => is_linked(log, *link),
+        Act::Cut { link } => is_linked(log, *link),
         _ => true,
     }
 }

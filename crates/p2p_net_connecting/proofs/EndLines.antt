@@ -15,7 +15,6 @@ use Rattle.p2p_log.specs.declared.entry.Entry.{Entry}
 use Rattle.p2p_log.specs.declared.entry.Ended.{Ended}
 use Rattle.p2p_log.specs.declared.event.Event.{Event}
 use Rattle.p2p_log.specs.QueueCode.{same_queue}
-use Rattle.p2p_log.specs.Apart.{AreApart}
 use Rattle.p2p_log.specs.Copies.{copies_of}
 use Rattle.p2p_log.specs.Drained.{drained, all_end}
 use Rattle.p2p_log.specs.Lines.{name_of, ended_item, stays, live, stands_in, line}
@@ -23,8 +22,7 @@ use Rattle.p2p_log.specs.Taken.{AreTaken}
 use Rattle.p2p_log.proofs.Each.{Each-weaker, Each-append}
 use Rattle.p2p_log.proofs.Filters.{filter-none}
 use Rattle.p2p_log.proofs.Lines.{filter_stays-append}
-use Rattle.p2p_log.proofs.Names.{AreApart-filter}
-use Rattle.p2p_log.proofs.Taken.{AreDifferent, other_left, Each-drained}
+use Rattle.p2p_log.proofs.Taken.{Each-drained}
 use Rattle.p2p_log_rules.specs.declared.row.Half.{Half}
 use Rattle.p2p_log_rules.specs.declared.row.Row.{Row}
 use Rattle.p2p_log_rules.specs.Effect.{entry_of}
@@ -32,31 +30,6 @@ use Rattle.p2p_log_rules.specs.Ending.{queues_with, copies_drop, left_by, end_ro
 use Rattle.p2p_log_rules.specs.Moves.{Moves}
 use Rattle.p2p_log_rules.proofs.Moves.{all_end-gone, goes_moved, kept, line-after, line-moved, rest_stood}
 use Rattle.p2p_net_queues.proofs.Going.{put_in}
-
--- ---- what is emptied, queue by queue
-
--- queues that are emptied one after another give their lines, where no two of them are one
-lines_drained : (xs ys : List Envelope) (qs : List Queue) → AreApart xs → AreDifferent qs → Each (λ q. filter (stands_in q) xs ≡ filter (stands_in q) ys) qs
-    → drained xs qs ≡ flat_map (λ q. filter (stands_in q) ys) qs
-lines_drained xs ys [] apart differ same = refl
-lines_drained xs ys (q ∷ qs) apart differ same =
-    let l = filter (stands_in q) xs in
-    let left = filter (stays (map name_of l)) xs in
-    ap (λ a. a ++ drained left qs) same.0
-    ∙ ap (λ b. filter (stands_in q) ys ++ b)
-    (lines_drained left ys qs (AreApart-filter (stays (map name_of l)) xs apart) differ.1 (still qs differ.0 same.1))
-  where
-    still : (ps : List Queue) → Each (λ p. same_queue q p ≡ false) ps → Each (λ p. filter (stands_in p) xs ≡ filter (stands_in p) ys) ps
-        → Each (λ p. filter (stands_in p) (filter (stays (map name_of (filter (stands_in q) xs))) xs) ≡ filter (stands_in p) ys) ps
-    still [] d h = tt
-    still (p ∷ ps) d h = (other_left xs q p apart d.0 ∙ h.0, still ps d.1 h.1)
-
-pub drained_lines : (xs : List Envelope) (qs : List Queue) → AreApart xs → AreDifferent qs → drained xs qs ≡ flat_map (λ q. filter (stands_in q) xs) qs
-drained_lines xs qs apart differ = lines_drained xs xs qs apart differ (same qs)
-  where
-    same : (qs : List Queue) → Each (λ q. filter (stands_in q) xs ≡ filter (stands_in q) xs) qs
-    same [] = tt
-    same (q ∷ qs) = (refl, same qs)
 
 -- ---- what an end takes and ends
 

@@ -22,7 +22,7 @@ use Rattle.p2p_log.proofs.Filters.{filter-none}
 use Rattle.p2p_log.proofs.Names.{AreApart-live_from}
 use Rattle.p2p_log.proofs.Queues.{same_queue-sym}
 use Rattle.p2p_log.proofs.QueueNames.{queue_from_same}
-use Rattle.p2p_log.proofs.Taken.{filter-taken, drained_taken, Each-drained}
+use Rattle.p2p_log.proofs.Taken.{filter-taken, drained_taken, Each-drained, drained_lines}
 use Rattle.p2p_log.proofs.Each.{Each-weaker}
 use Rattle.p2p_log_rules.specs.declared.row.Half.{Half}
 use Rattle.p2p_log_rules.specs.declared.row.Row.{Row}
@@ -40,7 +40,7 @@ use Rattle.p2p_net_router.proofs.Unrouted.{unrouted_apart}
 use Rattle.p2p_net_links.specs.declared.links.Links.{Links}
 use Rattle.p2p_net_node.specs.Stands.{RouterStands, key_heard}
 use Rattle.p2p_net_node.specs.declared.node.Node.{Node}
-use Rattle.p2p_net_connecting.proofs.EndLines.{drained_lines, kept_is}
+use Rattle.p2p_net_connecting.proofs.EndLines.{kept_is}
 use Rattle.p2p_net_connecting.proofs.Leaving.{Leaving, qs, flight, left, apart, routes, leads, without_number, without_peers, without_over, emptied_puts}
 use Rattle.p2p_net_connecting.proofs.LeavingEntry.{half_act, no_router, no_channel, no_start, entry, ends_only, begins_none, makes_none}
 use Rattle.p2p_net_connecting.proofs.LeavingLines.{none_of, off_flight, left_none}

@@ -15,7 +15,7 @@ use Rattle.p2p_log.specs.declared.entry.Entry.{Entry}
 use Rattle.p2p_log.specs.declared.entry.Reply.TheVariants as reply
 use Rattle.p2p_log.specs.Drained.{drained, all_end}
 use Rattle.p2p_log.specs.Lines.{name_of, named, stands_in}
-use Rattle.p2p_log.proofs.Taken.{AreDifferent}
+use Rattle.p2p_log.proofs.Taken.{AreDifferent, drained_lines}
 use Rattle.p2p_log_rules.specs.declared.row.Half.{Half}
 use Rattle.p2p_log_rules.specs.declared.row.Row.{Row}
 use Rattle.p2p_log_rules.specs.Effect.{mailbox_size_at}
@@ -28,7 +28,6 @@ use Rattle.p2p_net_connections.specs.declared.connections.Connections.{Connectio
 use Rattle.p2p_net_links.specs.declared.links.Links.{Links}
 use Rattle.p2p_net_tracker.specs.declared.tracker.Tracker.{Tracker}
 use Rattle.p2p_net_node.specs.declared.node.Node.{Node}
-use Rattle.p2p_net_connecting.proofs.EndLines.{drained_lines}
 use Rattle.p2p_net_connecting.proofs.EndRows.{named_ends_with, ends_of_all}
 use Rattle.p2p_net_connecting.proofs.Leaving.{Leaving, qs, flight, left, apart, connects, peer_is, without_number, without_over, without_tracker}
 use Rattle.p2p_net_connecting.proofs.LeavingLines.{off_flight}

@@ -17,7 +17,7 @@ use Rattle.p2p_log.specs.Lines.{line, live}
 use Rattle.p2p_log_rules.specs.declared.row.Half.{Half}
 use Rattle.p2p_log_rules.specs.declared.row.Row.{Row}
 use Rattle.p2p_log_rules.specs.Connections.{live_half, is_begun, has_run}
-use Rattle.p2p_log_rules.specs.Dropping.{is_dropped}
+use Rattle.p2p_log_rules.specs.Cutting.{is_broken}
 use Rattle.p2p_log_rules.specs.Ending.{end_row}
 use Rattle.p2p_log_rules.specs.Facts.{is_up, events_of, latest_moment}
 use Rattle.p2p_log_rules.specs.Metering.{limit_at}
@@ -31,6 +31,7 @@ use Rattle.p2p_net_connections.specs.Connections.{runs_on}
 use Rattle.p2p_net_connections.specs.Stands.{ConnectionsStand}
 use Rattle.p2p_net_connections.specs.declared.connections.Stage.{Stage}
 use Rattle.p2p_net_connections.specs.declared.connections.Stage.TheVariants as stage
+use Rattle.p2p_net_links.proofs.Cuts.{broken_is}
 use Rattle.p2p_net_links.specs.Stands.{LinksStand}
 use Rattle.p2p_net_links.specs.declared.links.Links.{Links}
 use Rattle.p2p_net_connecting.specs.Connecting.{half_by}
@@ -73,8 +74,8 @@ module _ (configs : List Config) (log : List Entry) (at seed conn n : ℕ) (half
   -- ---- one that runs
 
   module _ (begun : is_begun log n conn ≡ true) (running : has_run log n conn ≡ true) where
-    -- no frame is in flight towards it, by whether the other end was dropped
-    none_row : line log (queue.Held n conn) ≡ [] → line log p ≡ [] → (b : Bool) → is_dropped log half.link u ≡ b
+    -- no frame is in flight towards it, by whether the other end was dropped or the link was cut
+    none_row : line log (queue.Held n conn) ≡ [] → line log p ≡ [] → (b : Bool) → is_broken log half.link u ≡ b
         → row configs log at seed (act.RecvStep conn n) ≡ cond b (end_row log n conn half ended.ReceiveFailed cause.ConnectionEnded []) (only reply.Idle)
     unfolding row
     none_row none first b gone =
@@ -82,13 +83,13 @@ module _ (configs : List Config) (log : List Entry) (at seed conn n : ℕ) (half
         ∙ (ap (λ w. held_row configs log n conn at half w (line log p)) none
         ∙ (ap (receive_row configs log n conn at half) first ∙ ap (λ c. cond c (end_row log n conn half ended.ReceiveFailed cause.ConnectionEnded []) (only reply.Idle)) gone))
 
-    by_dropped : line log (queue.Held n conn) ≡ [] → line log p ≡ [] → (b : Bool) → is_dropped log half.link u ≡ b → ReadsNone b (length log) n conn half x y l links r → Done
-    by_dropped none first false gone d = waits (none_row none first false gone) d.0.0 d.0.1 d.1
-    by_dropped none first true gone d = unread_performs configs log at seed conn n half x y l links r s t has begun running (heard running) (none_row none first true gone) d
+    by_broken : line log (queue.Held n conn) ≡ [] → line log p ≡ [] → (b : Bool) → is_broken log half.link u ≡ b → ReadsNone b (length log) n conn half x y l links r → Done
+    by_broken none first false gone d = waits (none_row none first false gone) d.0.0 d.0.1 d.1
+    by_broken none first true gone d = unread_performs configs log at seed conn n half x y l links r s t has begun running (heard running) (none_row none first true gone) d
 
     by_frames : (fs : List Envelope) → line log (queue.Held n conn) ≡ [] → line log p ≡ fs → ReceivesBy (slice_get fs 0) (length log) n conn at half x y l links r → Done
     by_frames [] none first d =
-        by_dropped none first (is_dropped log half.link u) refl (subst (λ b. ReadsNone b (length log) n conn half x y l links r) (t.dropped half.link u) d)
+        by_broken none first (is_broken log half.link u) refl (subst (λ b. ReadsNone b (length log) n conn half x y l links r) (broken_is configs log l half.link t u) d)
     by_frames (f ∷ fs) none first d =
         let limit : x.config.max_message_size ≡ limit_at configs n = limit_here configs n x s.own in
         off_performs configs log at seed conn n half x y l links r s t late up has running f fs first (arrival_in (limit_at configs n) f.item) refl

@@ -15,7 +15,7 @@ use Rattle.p2p_log_laws.proofs.EndHeard.{names_ready}
 use Rattle.p2p_log_rules.specs.declared.row.Half.{Half}
 use Rattle.p2p_log_rules.specs.declared.row.Row.{Row}
 use Rattle.p2p_log_rules.specs.Connections.{live_half, is_begun, has_run}
-use Rattle.p2p_log_rules.specs.Dropping.{is_dropped}
+use Rattle.p2p_log_rules.specs.Cutting.{is_broken}
 use Rattle.p2p_log_rules.specs.Effect.{row, write_row, batch_size_at, beside_ping, batch, written_row, told_to_end_row, running_row, mailbox_size_at, other_side}
 use Rattle.p2p_log_rules.specs.Ending.{end_row}
 use Rattle.p2p_log_rules.specs.Facts.{is_up}
@@ -23,7 +23,8 @@ use Rattle.p2p_log_rules.specs.Pings.{ping_is_due}
 use Rattle.p2p_net_queues.specs.Board.{held}
 use Rattle.p2p_net_queues.specs.Rows.{all_dropped}
 use Rattle.p2p_net_router.specs.Batches.{batch_of}
-use Rattle.p2p_net_links.specs.Dropping.{is_dropped_at}
+use Rattle.p2p_net_links.proofs.Cuts.{broken_is}
+use Rattle.p2p_net_links.specs.Cutting.{is_broken_at}
 use Rattle.p2p_net_links.specs.Stands.{LinksStand}
 use Rattle.p2p_net_links.specs.declared.links.Links.{Links}
 use Rattle.p2p_net_tracker.specs.Stands.{TrackerStands}
@@ -63,8 +64,8 @@ is_told (k ∷ cs) true h = record { k = k; rest = cs; is = refl; has_room = ref
 is_told (k ∷ cs) false h = cc
 
 -- where it has something to write and cannot, it ends
-written_row-broken : (log : List Entry) (n conn : ℕ) (half : Half) (dropped due : Bool) (xs : List Envelope) → (has_more due (map named xs) && dropped) ≡ true
-    → written_row log n conn half dropped due xs ≡ end_row log n conn half ended.SendFailed cause.ConnectionEnded xs
+written_row-broken : (log : List Entry) (n conn : ℕ) (half : Half) (broken due : Bool) (xs : List Envelope) → (has_more due (map named xs) && broken) ≡ true
+    → written_row log n conn half broken due xs ≡ end_row log n conn half ended.SendFailed cause.ConnectionEnded xs
 written_row-broken log n conn half true true xs h = refl
 written_row-broken log n conn half true false (y ∷ xs) h = refl
 written_row-broken log n conn half true false [] h = cc
@@ -73,8 +74,8 @@ written_row-broken log n conn half false false (y ∷ xs) h = cc
 written_row-broken log n conn half false false [] h = cc
 
 -- else it writes
-written_row-whole : (log : List Entry) (n conn : ℕ) (half : Half) (dropped due : Bool) (xs : List Envelope) → (has_more due (map named xs) && dropped) ≡ false
-    → written_row log n conn half dropped due xs ≡ write_row (queue.Link half.link half.writes) due xs
+written_row-whole : (log : List Entry) (n conn : ℕ) (half : Half) (broken due : Bool) (xs : List Envelope) → (has_more due (map named xs) && broken) ≡ false
+    → written_row log n conn half broken due xs ≡ write_row (queue.Link half.link half.writes) due xs
 written_row-whole log n conn half true true xs h = cc
 written_row-whole log n conn half true false (y ∷ xs) h = cc
 written_row-whole log n conn half true false [] h = refl
@@ -100,11 +101,11 @@ module _ (configs : List Config) (log : List Entry) (at seed conn n : ℕ) (half
   size_is : beside_ping due x.config.send_batch_size ≡ most
   size_is = ap (beside_ping due) (sym (ap (λ (o : Option Config). elim o [ None ↦ 0 | Some c ↦ c.send_batch_size ]) s.own.config))
 
-  abbrev dropped : Bool
-  dropped = is_dropped log half.link (other_side half.writes)
+  abbrev broken : Bool
+  broken = is_broken log half.link (other_side half.writes)
 
   abbrev written : Row
-  written = written_row log n conn half dropped due (batch log n conn most)
+  written = written_row log n conn half broken due (batch log n conn most)
 
   row_told : row configs log at seed (act.SendStep conn n) ≡ told_to_end_row log n conn half (line log (queue.Control n conn)) (nat_lt 0 most) written
   unfolding row
@@ -138,31 +139,31 @@ module _ (configs : List Config) (log : List Entry) (at seed conn n : ℕ) (half
     row_written : row configs log at seed (act.SendStep conn n) ≡ written
     row_written = row_told ∙ told_row-off log n conn half (line log (queue.Control n conn)) (nat_lt 0 most) written quiet
 
-    can_same : (has_more due d.frames && is_dropped_at l (other_side half.writes) half.link) ≡ (has_more due (map named (batch log n conn most)) && dropped)
+    can_same : (has_more due d.frames && is_broken_at l (other_side half.writes) half.link) ≡ (has_more due (map named (batch log n conn most)) && broken)
     can_same =
-        ap (λ fs. has_more due fs && is_dropped_at l (other_side half.writes) half.link) took
-        ∙ ap (λ b. has_more due (map named (batch log n conn most)) && b) (t.dropped half.link (other_side half.writes))
+        ap (λ fs. has_more due fs && is_broken_at l (other_side half.writes) half.link) took
+        ∙ ap (λ b. has_more due (map named (batch log n conn most)) && b) (broken_is configs log l half.link t (other_side half.writes))
 
-    broken : (has_more due (map named (batch log n conn most)) && dropped) ≡ true → EndsUnwritten (length log) n conn half d.frames d.batched y l links r → Done
-    broken h ends =
+    ends_unwritten : (has_more due (map named (batch log n conn most)) && broken) ≡ true → EndsUnwritten (length log) n conn half d.frames d.batched y l links r → Done
+    ends_unwritten h ends =
         let xs = batch log n conn most in
         let same : batch_of n conn (beside_ping due x.config.send_batch_size) (live log) ≡ xs = batch_is log n conn (beside_ping due x.config.send_batch_size) ∙ ap (batch log n conn) size_is in
         sent_end_performs configs log at seed n conn half ended.SendFailed cause.ConnectionEnded xs x d.batched y l l links r s has begun running heard
-        (row_written ∙ written_row-broken log n conn half dropped due xs h)
+        (row_written ∙ written_row-broken log n conn half broken due xs h)
         (subst (λ v. HaveLeft configs log n conn half v x d.batched l l) same
         (batch_left configs log n conn (beside_ping due x.config.send_batch_size) half x d.batched l d.frames s t d.batches d.kept))
         (subst (λ (z : Row). Ends (length log) n conn half d.batched y l links z r)
         (ap (λ fs. all_dropped cause.ConnectionEnded fs (ending ended.SendFailed)) took ∙ all_dropped-row ended.SendFailed cause.ConnectionEnded [] [] xs) ends)
 
-    by_link : (b : Bool) → (has_more due (map named (batch log n conn most)) && dropped) ≡ b → WritesTo b (length log) n conn at half due d.frames d.batched y l links r → Done
-    by_link true h ends = broken h ends
+    by_link : (b : Bool) → (has_more due (map named (batch log n conn most)) && broken) ≡ b → WritesTo b (length log) n conn at half due d.frames d.batched y l links r → Done
+    by_link true h ends = ends_unwritten h ends
     by_link false h writes =
         write_performs configs log at seed conn n half due x d.batched y l links r s t begun running pings d.frames d.batches d.kept
-        (row_written ∙ written_row-whole log n conn half dropped due (batch log n conn most) h) writes
+        (row_written ∙ written_row-whole log n conn half broken due (batch log n conn most) h) writes
 
     writes_perform : Done
     writes_perform =
-        by_link (has_more due (map named (batch log n conn most)) && dropped) refl
+        by_link (has_more due (map named (batch log n conn most)) && broken) refl
         (subst (λ b. WritesTo b (length log) n conn at half due d.frames d.batched y l links r) can_same d.writes)
 
   by_told : (b : Bool) → (nat_lt 0 most && is_some (slice_get (line log (queue.Control n conn)) 0)) ≡ b → WorksBy b (length log) n conn at half due x y l links r → Done

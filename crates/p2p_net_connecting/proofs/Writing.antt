@@ -38,11 +38,10 @@ use Rattle.p2p_net_connections.proofs.Beginning.{connections_stepped, connection
 use Rattle.p2p_net_connections.proofs.Pings.{pings_by}
 use Rattle.p2p_log_rules.proofs.Pinging.{PingsWhenDue}
 use Rattle.p2p_log_rules.proofs.Families.{kinds_of, are_apart}
-use Rattle.p2p_log_rules.proofs.Links.{exchange_kinds}
 use Rattle.p2p_net_links.specs.Links.{write_frames_row}
 use Rattle.p2p_net_links.specs.Stands.{LinksStand}
 use Rattle.p2p_net_links.specs.declared.links.Links.{Links}
-use Rattle.p2p_net_links.proofs.Changes.{openings_unmoved, frames_put, links_written}
+use Rattle.p2p_net_links.proofs.Changes.{opening_kinds, openings_unmoved, frames_put, links_written}
 use Rattle.p2p_net_tracker.specs.Stands.{is_told, TrackerStands}
 use Rattle.p2p_net_tracker.proofs.Changes.{tracker_frame}
 use Rattle.p2p_net_connecting.specs.Connecting.{WritesFrames}
@@ -295,6 +294,6 @@ module _ (configs : List Config) (log : List Entry) (at seed conn n : ℕ) (half
         );
     linked = subst (LinksStand configs (log ++ e ∷ [])) (sym d.links_are)
         (links_written configs log e l half.writes half.link (length log) due frames t
-        (λ u j. line_written log e n conn half.link most half.writes due frames (queue.Link j u) (high_link n conn j u) (low_link n conn j u) took takes ends puts) (openings_unmoved log e (ap (λ a. are_apart (kinds_of a) exchange_kinds) acts))
+        (λ u j. line_written log e n conn half.link most half.writes due frames (queue.Link j u) (high_link n conn j u) (low_link n conn j u) took takes ends puts) (openings_unmoved log e (ap (λ a. are_apart (kinds_of a) opening_kinds) acts))
         (step_drops log e n conn acts lives));
   }

@@ -19,7 +19,7 @@ use Rattle.p2p_net_connections.specs.declared.connections.Connections.{Connectio
 use Rattle.p2p_net_connections.specs.declared.connections.Stage.{Stage}
 use Rattle.p2p_net_connections.specs.declared.connections.Stage.TheVariants as stage
 use Rattle.p2p_net_links.specs.declared.links.Links.{Links}
-use Rattle.p2p_net_links.specs.Dropping.{is_dropped_at}
+use Rattle.p2p_net_links.specs.Cutting.{is_broken_at}
 use Rattle.p2p_net_links.specs.Links.{way_of, with_way, batch_way, write_frames_row}
 use Rattle.p2p_net_tracker.specs.Connecting.{connected_by}
 use Rattle.p2p_net_connecting.specs.Ending.{EndsKilled, EndsUnwritten}
@@ -69,7 +69,7 @@ pub record Writes (k n conn at : ℕ) (half : Half) (due : Bool) (old new : Node
   pub batched : Node
   pub batches : routing.Batches conn (beside_ping due old.config.send_batch_size) old.router batched.router frames
   pub kept : batched ≡ record old { router = batched.router }
-  pub writes : WritesTo (has_more due frames && is_dropped_at l (other_side half.writes) half.link) k n conn at half due frames batched new l links r
+  pub writes : WritesTo (has_more due frames && is_broken_at l (other_side half.writes) half.link) k n conn at half due frames batched new l links r
 
 -- by whether it is told to end, and its batch has room for that
 abbrev pub WorksBy : Bool → ℕ → ℕ → ℕ → ℕ → Half → Bool → Node → Node → Links → Links → Row → Type 0

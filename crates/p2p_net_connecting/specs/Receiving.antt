@@ -25,7 +25,7 @@ use Rattle.p2p_net_connections.specs.declared.connections.Stage.{Stage}
 use Rattle.p2p_net_connections.specs.declared.connections.Stage.TheVariants as stage
 use Rattle.p2p_net_connections.specs.Connections.{held_with, without_held, may_ping, ping_metered}
 use Rattle.p2p_net_links.specs.declared.links.Links.{Links}
-use Rattle.p2p_net_links.specs.Dropping.{is_dropped_at}
+use Rattle.p2p_net_links.specs.Cutting.{is_broken_at}
 use Rattle.p2p_net_links.specs.Links.{way_of, with_way}
 use Rattle.p2p_net_node.specs.Staying.{Stays}
 use Rattle.p2p_net_connecting.specs.Connecting.{half_by}
@@ -130,7 +130,7 @@ ReadsNone false k n conn half old new l links r = Stays old new r (only reply.Id
 ReadsNone true k n conn half old new l links r = EndsUnread k n conn half old new l links r
 
 abbrev pub ReceivesBy : Option Envelope → ℕ → ℕ → ℕ → ℕ → Half → Node → Node → Links → Links → Row → Type 0
-ReceivesBy None k n conn at half old new l links r = ReadsNone (is_dropped_at l (other_side half.writes) half.link) k n conn half old new l links r
+ReceivesBy None k n conn at half old new l links r = ReadsNone (is_broken_at l (other_side half.writes) half.link) k n conn half old new l links r
 ReceivesBy (Some x) k n conn at half old new l links r = ReadsFrame (frame_in old.config.max_message_size (Some x)) k n conn at half old new l links r
 
 -- the first frame is delivered, or held, or the connection ends

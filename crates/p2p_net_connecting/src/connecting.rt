@@ -3,7 +3,7 @@ ghost use Rattle.std.specs.Prelude.{◌≡◌, ◌≤◌, ◌&&◌, IfOk, OnOk, 
 ghost use Rattle.p2p_log_rules.specs.Connections.{side_at as side_at_node};
 ghost use Rattle.p2p_router.specs.Messenger.{is_bound};
 ghost use Rattle.p2p_log_rules.specs.Effect.{beside_ping as beside_a_ping, other_side as other_side_of};
-ghost use Rattle.p2p_net_links.specs.Dropping.{is_dropped_at};
+ghost use Rattle.p2p_net_links.specs.Cutting.{is_broken_at};
 ghost use Rattle.p2p_net_connecting.specs.Connecting.{half_by, has_more, Begins, WritesTo, Writes, Works, SendSteps};
 
 use crate::ending::{end_killed, end_unwritten, other_side};
@@ -83,11 +83,11 @@ fn write_frames(
     frames: List<((u64, u64), Item)>,
 ) -> Result<Row, AllocError>
     requires bound { IsTrue (is_bound node.old.router.messenger.binding) }
-    ensures does { IfOk result (λ r. WritesTo (has_more due frames && is_dropped_at links.old (other_side_of half.writes) half.link)
+    ensures does { IfOk result (λ r. WritesTo (has_more due frames && is_broken_at links.old (other_side_of half.writes) half.link)
         turn.entry turn.node conn at half due frames node.old node.new links.old links.new r) }
     ensures failed { OnOk result (node.new.failed ≡ node.old.failed) }
 {
-    if writes(due, frames.as_slice()) && links.is_dropped(half.link, other_side(half.writes)) {
+    if writes(due, frames.as_slice()) && links.is_broken(half.link, other_side(half.writes)) {
         return Ok(end_unwritten(node, turn, links, conn, half, &frames)?);
     }
     let row = links.write(turn, half.link, half.writes, due, frames)?;

@@ -162,7 +162,7 @@ fn receive(
 {
     let side = other_side(half.writes);
     if links.front(half.link, side).is_none() {
-        if links.is_dropped(half.link, side) {
+        if links.is_broken(half.link, side) {
             return Ok(end_unread(node, turn, links, conn, half)?);
         }
         return Ok(only(turn.alloc, Reply::Idle));

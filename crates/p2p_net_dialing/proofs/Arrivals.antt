@@ -51,7 +51,7 @@ use Rattle.p2p_net_gates.proofs.Handshakes.{other_tells}
 use Rattle.p2p_net_links.specs.declared.links.Links.{Links}
 use Rattle.p2p_net_links.specs.Stands.{LinksStand}
 use Rattle.p2p_net_links.proofs.Drops.{DropsNone, drops_none-act}
-use Rattle.p2p_net_links.proofs.Changes.{links_frame, links_opened, is_ok_reply, OpensNone, Opens, openings_unanswered, openings_linkless, openings_opened}
+use Rattle.p2p_net_links.proofs.Changes.{links_frame, links_opened, is_ok_reply, OpensNone, exchanges_less, Opens, openings_unanswered, openings_linkless, openings_opened}
 use Rattle.p2p_net_dialing.specs.Linking.{arrives, with_arrival, Arrives, opened, IsLinked}
 use Rattle.p2p_net_node.specs.Places.{Part, dialer, listener, same_part, at, names}
 use Rattle.p2p_net_node.specs.Ready.{is_started}
@@ -287,7 +287,7 @@ module _ (configs : List Config) (log : List Entry) (moment seed name n m : ℕ)
   end_of : (b : Bool) → comes ≡ b → (j : ℕ) → (m == j) ≡ true → (i : ℕ) → listening_ends_of (log ++ e ∷ []) j i ≡ end_with b (ends j) i
   end_of false no_one j here i =
       subst (λ (z : Entry). listening_ends_of (log ++ z ∷ []) j i ≡ ends j i) is_effect
-      (listening_ends_of-unlinked log (entry_of ev due) j name n m from refl (subst (OpensNone log) (sym is_effect) (nothing_opened kind no_one)) i)
+      (listening_ends_of-unlinked log (entry_of ev due) j name n m from refl (exchanges_less log (entry_of ev due) (subst (OpensNone log) (sym is_effect) (nothing_opened kind no_one))) i)
   end_of true some_one j here i = subst (λ (z : Entry). listening_ends_of (log ++ z ∷ []) j i ≡ end_with true (ends j) i) is_effect (begun kind)
     where
       begun : Told up name n c.told → listening_ends_of (log ++ entry_of ev due ∷ []) j i ≡ end_with true (ends j) i

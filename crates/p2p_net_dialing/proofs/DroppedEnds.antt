@@ -29,10 +29,9 @@ use Rattle.p2p_net_queues.proofs.Going.{line-append}
 use Rattle.p2p_net_links.specs.Dropping.{end_dropped}
 use Rattle.p2p_net_links.specs.Stands.{LinksStand}
 use Rattle.p2p_net_links.specs.declared.links.Links.{Links}
-use Rattle.p2p_net_links.proofs.Changes.{openings_unmoved, links_frame}
+use Rattle.p2p_net_links.proofs.Changes.{opening_kinds, openings_unmoved, links_frame}
 use Rattle.p2p_log_rules.proofs.Dropping.{all_of}
 use Rattle.p2p_log_rules.proofs.Families.{kinds_of, are_apart}
-use Rattle.p2p_log_rules.proofs.Links.{exchange_kinds}
 use Rattle.p2p_net_links.proofs.Drops.{DropsNone}
 use Rattle.p2p_net_links.proofs.Ending.{DropsEnd, links_dropped}
 use Rattle.p2p_net_tracker.specs.Stands.{is_told}
@@ -136,7 +135,7 @@ abbrev pub end_by : Bool → Option ℕ → Side → Option LinkEnd
 end_by true o s = None
 end_by false o s = option_map (λ link. (link, s)) o
 
-module _ (configs : List Config) (log : List Entry) (ev : Event) (base r : Row) (l ls : Links) (t : LinksStand configs log l) (leaves : LeavesLinks log base) (opens : are_apart (kinds_of ev.act) exchange_kinds ≡ true) where
+module _ (configs : List Config) (log : List Entry) (ev : Event) (base r : Row) (l ls : Links) (t : LinksStand configs log l) (leaves : LeavesLinks log base) (opens : are_apart (kinds_of ev.act) opening_kinds ≡ true) where
   abbrev pub e : Option LinkEnd → Entry
   e lost = entry_of ev (dropped log lost base)
 
@@ -188,7 +187,7 @@ pub record DidBeside (configs : List Config) (log : List Entry) (ev : Event) (n 
 -- so the act with the row in which the end is dropped is performed
 pub performs_beside :
     (configs : List Config) (log : List Entry) (ev : Event) (n : ℕ) (x y : Node) (l ls : Links) (ps : List Part) (lost : Option LinkEnd) (due base r : Row) (kept : Bool) (o : Option ℕ) (s : Side) → NodeStands configs log n x
-    → LinksStand configs log l → are_apart (kinds_of ev.act) exchange_kinds ≡ true → steps_spawner n ev.act ≡ false → ((p : Part) → is_in p ps ≡ false → names log ev.act (at p n) ≡ false) → DidBeside configs log ev n x y ps lost due base → DropsUnless kept o s l ls base r
+    → LinksStand configs log l → are_apart (kinds_of ev.act) opening_kinds ≡ true → steps_spawner n ev.act ≡ false → ((p : Part) → is_in p ps ≡ false → names log ev.act (at p n) ≡ false) → DidBeside configs log ev n x y ps lost due base → DropsUnless kept o s l ls base r
     → end_by kept o s ≡ lost → drops_of log (entry_of ev (dropped log lost base)) ≡ all_of lost → row configs log ev.at ev.seed ev.act ≡ dropping log lost base → Performs configs log ev n y ls r
 unfolding effect
 performs_beside configs log ev n x y l ls ps lost due base r kept o s stood t opens spawns unnamed did d same drops row_is =

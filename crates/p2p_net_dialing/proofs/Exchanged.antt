@@ -1,6 +1,6 @@
 -- The exchange of keys over a link ends: the attempt is told, and the handshake at the other end.
 use Rattle.std.proofs.Common.{◌≡◌, ℕ, Bool, true, false, cond, List, [], ◌∷◌, ◌++◌, length, refl, ap, sym, subst, ◌∙◌, append-nil, eqb-true, Option, Some, None}
-use Rattle.std.specs.Prelude.{filter, is_some, slice_get, slice_set, ◌==◌, ◌&&◌, ◌||◌}
+use Rattle.std.specs.Prelude.{filter, is_some, not, slice_get, slice_set, ◌==◌, ◌&&◌, ◌||◌}
 use Rattle.std.specs.List.{list_any}
 use Rattle.std.specs.Option.{option_map}
 use Rattle.std.proofs.lemmas.Option.{same_Some}
@@ -32,6 +32,7 @@ use Rattle.p2p_log_rules.specs.declared.row.Row.{Row}
 use Rattle.p2p_log_rules.specs.Attempting.{Attempt, attempts_of}
 use Rattle.p2p_log_rules.specs.Effect.{only, row, effect, entry_of}
 use Rattle.p2p_log_rules.specs.Facts.{key_at}
+use Rattle.p2p_log_rules.specs.Cutting.{is_cut}
 use Rattle.p2p_log_rules.specs.Links.{openings_of, listening_ends_of, is_dialed, accepts, exchanged, dialing_puts, listening_puts, finished_row, verdict, finish_by}
 use Rattle.p2p_log_rules.proofs.AttemptTellings.{attempts_of-kept}
 use Rattle.p2p_log_rules.proofs.Dialing.{dials_of-kept}
@@ -55,6 +56,7 @@ use Rattle.p2p_net_tracker.specs.Stands.{is_told, TrackerStands}
 use Rattle.p2p_net_tracker.specs.declared.tracker.Tracker.{Tracker}
 use Rattle.p2p_net_tracker.proofs.Changes.{tracker_frame}
 use Rattle.p2p_net_tracker.proofs.FinishSteps.{tracker_after_finish}
+use Rattle.p2p_net_links.specs.Cutting.{is_cut_at}
 use Rattle.p2p_net_links.specs.declared.links.Links.{Links}
 use Rattle.p2p_net_links.specs.Stands.{LinksStand}
 use Rattle.p2p_net_links.proofs.Changes.{links_finished, openings_finished}
@@ -84,25 +86,27 @@ end_accepted configs log m link y s (Some (listening.Handshake h)) is = end_acce
 abbrev dialed_by : List Config → List Entry → Opening → Option Key
 dialed_by configs log o = option_map (λ (a : Attempt). a.key) (attempts_of configs log o.node o.attempt)
 
-said_is : (configs : List Config) (log : List Entry) (ok : Bool) (o : Opening) (link : ℕ) (x y : Node) → NodeStands configs log o.node x → NodeStands configs log o.to y
-    → said ok (dialed_key (table.at x.dialing.attempts o.attempt)) (table.at y.listening.ends link) y ≡ verdict configs log ok o.to (dialed_by configs log o) (listening_ends_of log o.to link)
-said_is configs log ok o link x y s t =
+said_is : (configs : List Config) (log : List Entry) (ok : Bool) (o : Opening) (link : ℕ) (l : Links) (x y : Node) → LinksStand configs log l → NodeStands configs log o.node x → NodeStands configs log o.to y
+    → said ok (is_cut_at l link) (dialed_key (table.at x.dialing.attempts o.attempt)) (table.at y.listening.ends link) y
+    ≡ verdict configs log ok o.to (is_cut log link) (dialed_by configs log o) (listening_ends_of log o.to link)
+said_is configs log ok o link l x y linked s t =
     let dialed : Option Key = dialed_by configs log o in
     let end : Option ListeningEnd = listening_ends_of log o.to link in
     let heard : ListenerStands configs log o.to y.listening = t.each listener in
-    ap (λ e. said ok (dialed_key (table.at x.dialing.attempts o.attempt)) e y) (heard.ends link)
-    ∙ (ap (λ d. said ok d end y) (dialed_key_is configs log o.node o.attempt x.dialing (s.each dialer))
-    ∙ (ap (λ k. exchanged (is_some dialed && is_some end) (ok && is_dialed k dialed) (accepts_end end y)) (key_is configs o.to y t.own)
-    ∙ ap (exchanged (is_some dialed && is_some end) (ok && is_dialed (key_at configs o.to) dialed)) (end_accepted configs log o.to link y t end refl)))
+    ap (λ c. said ok c (dialed_key (table.at x.dialing.attempts o.attempt)) (table.at y.listening.ends link) y) (linked.cut link)
+    ∙ (ap (λ e. said ok (is_cut log link) (dialed_key (table.at x.dialing.attempts o.attempt)) e y) (heard.ends link)
+    ∙ (ap (λ d. said ok (is_cut log link) d end y) (dialed_key_is configs log o.node o.attempt x.dialing (s.each dialer))
+    ∙ (ap (λ k. exchanged ((is_some dialed && is_some end) && not (is_cut log link)) (ok && is_dialed k dialed) (accepts_end end y)) (key_is configs o.to y t.own)
+    ∙ ap (exchanged ((is_some dialed && is_some end) && not (is_cut log link)) (ok && is_dialed (key_at configs o.to) dialed)) (end_accepted configs log o.to link y t end refl))))
 
 finish_row_is : (configs : List Config) (log : List Entry) (moment seed link : ℕ) (ok : Bool) (p : Option Opening) → openings_of log link ≡ p
     → row configs log moment seed (act.Finish link ok) ≡ elim p [
       | None ↦ only reply.Gone
-      | Some o ↦ finish_by configs log ok o (attempts_of configs log o.node o.attempt) (listening_ends_of log o.to link)
+      | Some o ↦ finish_by configs log ok (is_cut log link) o (attempts_of configs log o.node o.attempt) (listening_ends_of log o.to link)
     ]
 unfolding row
 finish_row_is configs log moment seed link ok p is =
-    ap (λ q. elim q [ None ↦ only reply.Gone | Some o ↦ finish_by configs log ok o (attempts_of configs log o.node o.attempt) (listening_ends_of log o.to link) ]) is
+    ap (λ q. elim q [ None ↦ only reply.Gone | Some o ↦ finish_by configs log ok (is_cut log link) o (attempts_of configs log o.node o.attempt) (listening_ends_of log o.to link) ]) is
 
 -- ---- nothing is told
 
@@ -382,7 +386,7 @@ module _ (configs : List Config) (log : List Entry) (moment seed link : ℕ) (ok
 
 -- the exchange over a link that is open, by what is said of its keys
 by_verdict : (configs : List Config) (log : List Entry) (moment seed link : ℕ) (ok : Bool) (o : Opening) (nodes new : List Node) (l links : Links) (r : Row) → WorldStands configs log nodes l → openings_of log link ≡ Some o
-    → (v : Option Bool) → verdict configs log ok o.to (dialed_by configs log o) (listening_ends_of log o.to link) ≡ v
+    → (v : Option Bool) → verdict configs log ok o.to (is_cut log link) (dialed_by configs log o) (listening_ends_of log o.to link) ≡ v
     → FinishesBy v (length log) link o (listening_ends_of log o.to link) nodes new l links r → Simulates configs log (asked moment seed (act.Finish link ok)) new links r
 by_verdict configs log moment seed link ok o nodes new l links r s is None none d =
     still_simulates configs log moment seed link ok nodes new l links r s reply.Pending
@@ -400,10 +404,10 @@ by_opening configs log moment seed link ok nodes new l links r s (Some o) is d =
     let second : NodeStands configs log o.to d.second = s.each o.to d.second d.at_second in
     let end : Option ListeningEnd = listening_ends_of log o.to link in
     let ends : table.at d.second.listening.ends link ≡ end = (second.each listener).ends link in
-    let v : Option Bool = verdict configs log ok o.to (dialed_by configs log o) end in
+    let v : Option Bool = verdict configs log ok o.to (is_cut log link) (dialed_by configs log o) end in
     by_verdict configs log moment seed link ok o nodes new l links r s is v refl
     (subst (λ x. FinishesBy v (length log) link o x nodes new l links r) ends
-    (subst (λ w. FinishesBy w (length log) link o (table.at d.second.listening.ends link) nodes new l links r) (said_is configs log ok o link d.first d.second first second) d.finishes))
+    (subst (λ w. FinishesBy w (length log) link o (table.at d.second.listening.ends link) nodes new l links r) (said_is configs log ok o link l d.first d.second s.linked first second) d.finishes))
 
 pub finish_simulates : (configs : List Config) (log : List Entry) (moment seed link : ℕ) (ok : Bool) (nodes new : List Node) (l links : Links) (r : Row) → WorldStands configs log nodes l
     → IsFinished (length log) link ok nodes new l links r → Simulates configs log (asked moment seed (act.Finish link ok)) new links r

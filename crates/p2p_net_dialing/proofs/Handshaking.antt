@@ -4,7 +4,6 @@ use Rattle.std.specs.Prelude.{filter, ◌==◌, ◌&&◌, ◌||◌, not, nat_le,
 use Rattle.std.specs.List.{list_any}
 use Rattle.std.specs.Option.{option_map}
 use Rattle.p2p_base.specs.declared.key.Key.{Key}
-use Rattle.p2p_tracker_directory.specs.Reserved.{peer_of}
 use Rattle.p2p_tracker_directory.specs.declared.metadata.Metadata.{Metadata}
 use Rattle.p2p_tracker_directory.specs.declared.metadata.Metadata.TheVariants as metadata
 use Rattle.p2p_tracker_mailbox.specs.Lines.{line_of, first_of, with_line, ended}
@@ -37,9 +36,8 @@ use Rattle.p2p_log.proofs.QueueNames.{queue_from_same}
 use Rattle.p2p_log_rules.proofs.Connections.{ends_untold}
 use Rattle.p2p_log_rules.specs.declared.row.Row.{Row}
 use Rattle.p2p_log_rules.specs.Facts.{taken}
-use Rattle.p2p_log_rules.specs.Dropping.{LinkEnd, handshake_drops}
+use Rattle.p2p_log_rules.specs.Dropping.{LinkEnd}
 use Rattle.p2p_log_rules.specs.Puts.{is_spawn, broke_off}
-use Rattle.p2p_log_rules.proofs.Dropping.{all_of, drops_of-handshake}
 use Rattle.p2p_log_rules.specs.Effect.{only, entry_of}
 use Rattle.p2p_log_rules.specs.Attempting.{left_ends, gone_on_row, ready_row}
 use Rattle.p2p_log_rules.specs.Handshakes.{ends_handshake, is_handshaking, is_finished, Peer, peer_at, source_at}
@@ -56,8 +54,6 @@ use Rattle.p2p_net_gates.specs.ListenerStands.{facts_of, IsRunning, HandshakeIs,
 use Rattle.p2p_net_gates.specs.declared.handshake.HandshakeStep.TheVariants as handshake
 use Rattle.p2p_net_gates.proofs.ListenerChanges.{listener_same, listener_untouched, handshakes_stepped, listener_after_handshake}
 use Rattle.p2p_net_gates.proofs.Handshakes.{facts_after}
-use Rattle.p2p_net_links.specs.Stands.{LinksStand}
-use Rattle.p2p_net_links.specs.declared.links.Links.{Links}
 use Rattle.p2p_net_connections.specs.Dialing.{IsReservedOver}
 use Rattle.p2p_net_connections.specs.Spawner.{refuses}
 use Rattle.p2p_net_connections.specs.SpawnerStands.{SpawnerStands}
@@ -74,16 +70,16 @@ use Rattle.p2p_net_tracker.proofs.GivenBack.{given_now, handshake_gives}
 use Rattle.p2p_net_tracker.proofs.HandshakeSteps.{after_step, left_after, tracker_after_handshake, line_of-dropped, line_of-ended, line_of-dropped_ended}
 use Rattle.p2p_net_tracker.proofs.Moved.{asked_desk, IsAsked}
 use Rattle.p2p_net_tracker.proofs.Steps.{none_taken, first_taken}
-use Rattle.p2p_net_dialing.specs.Dialing.{HandshakeStepBy, HandsOn, HandsOnBy, link_over, Shakes, HandshakeSteps}
+use Rattle.p2p_net_dialing.specs.Dialing.{HandshakeStepBy, HandsOn, HandsOnBy, link_over, Shakes}
 use Rattle.p2p_net_node.specs.Places as place
 use Rattle.p2p_net_node.specs.Stands.{PartStands, NodeStands}
 use Rattle.p2p_net_node.specs.declared.node.Node.{Node}
-use Rattle.p2p_net_dialing.proofs.DroppedEnds.{ended_with, dropped, goes_by, is_of_link, told_unlinked, unlinked_stay, LeavesLinks, end_by, DidBeside, performs_beside}
-use Rattle.p2p_net_node.proofs.EachPart.{AllOf, not_among-links}
+use Rattle.p2p_net_dialing.proofs.DroppedEnds.{ended_with, dropped, goes_by, is_of_link, told_unlinked, unlinked_stay, LeavesLinks, end_by, DidBeside}
+use Rattle.p2p_net_node.proofs.EachPart.{AllOf}
 use Rattle.p2p_net_dialing.proofs.HandingOn.{Handed, nothing, question, connection, handed_puts, item_in, message_in, spawner_after, IsOnItsSide, asked_on_its_side, HandedOn, nothing_asked, question_asked, connection_refused, connection_asked}
 use Rattle.p2p_net_dialing.proofs.HandingOn.{all_gone, none_gone, handed_unlinked, line_asked, line_elsewhere, line_told, handed_spawner, tracker_after}
-use Rattle.p2p_net_node.proofs.Performing.{asked, Performs, is_quiet, IsStill, part_still}
-use Rattle.p2p_net_dialing.proofs.Shaken.{left_is, linked_elsewhere, named, no_end, broken_end, firsts, lost_by, Shaken, step_row}
+use Rattle.p2p_net_node.proofs.Performing.{asked, is_quiet, IsStill, part_still}
+use Rattle.p2p_net_dialing.proofs.Shaken.{left_is, linked_elsewhere, named, no_end, broken_end, firsts, lost_by, Shaken}
 
 module _ (configs : List Config) (log : List Entry) (moment seed name n : ℕ) (x y : Node) (r : Row) (s : NodeStands configs log n x) (steps : Shakes (length log) n name moment x y r) (heard : HandshakeDialed log n name) where
   abbrev ev : Event
@@ -491,17 +487,3 @@ module _ (configs : List Config) (log : List Entry) (moment seed name n : ℕ) (
 
   pub shaken : Done
   shaken = by_handshake (table.at x.listening.handshakes name) refl (listens.handshakes name)
-
--- ---- with the end of its link
-
-pub handshake_performs : (configs : List Config) (log : List Entry) (moment seed name n : ℕ) (x y : Node) (l ls : Links) (r : Row) → NodeStands configs log n x → LinksStand configs log l
-    → HandshakeDialed log n name → HandshakeSteps (length log) n name moment x y l ls r → Performs configs log (asked moment seed (act.Handshake name n)) n y ls r
-handshake_performs configs log moment seed name n x y l ls r s t heard d =
-    let link : ℕ = (peer_at log name).link in
-    let waits = line log (queue.Handshake n name) in
-    let h : Shaken configs log (asked moment seed (act.Handshake name n)) n name x y d.row = shaken configs log moment seed name n x y d.row s d.steps heard in
-    performs_beside configs log (asked moment seed (act.Handshake name n)) n x y l ls named (lost_by log n name d.row) (log_rule.handshake_row configs log name n moment) d.row r
-    (is_some (table.at y.listening.handshakes name) || list_any is_spawn d.row.puts) (link_over (table.at x.listening.handshakes name)) side.In s t refl refl
-    (λ p out. not_among-links named p n out) h.did d.drops h.keeps
-    (drops_of-handshake log (entry_of (asked moment seed (act.Handshake name n)) (dropped log (lost_by log n name d.row) d.row)) name n refl ∙ ap (λ b. all_of (cond b (Some (link, side.In)) None)) h.took)
-    (step_row configs log moment seed name n ∙ ap (handshake_drops log link waits) (sym h.did.row_is))

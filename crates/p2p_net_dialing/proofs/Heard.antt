@@ -1,5 +1,5 @@
 -- What a step of a listener comes to, but for the end of an arrival that it turns away, and which end it drops.
-use Rattle.std.proofs.Common.{◌≡◌, ℕ, Bool, true, false, cond, List, [], ◌∷◌, length, refl, ap, ◌∙◌, Option, Some, None}
+use Rattle.std.proofs.Common.{◌≡◌, ℕ, true, false, cond, List, [], ◌∷◌, length, refl, ap, ◌∙◌, Option, Some, None}
 use Rattle.std.specs.Prelude.{filter}
 use Rattle.p2p_base.specs.declared.key.Key.{Key}
 use Rattle.p2p_tracker_calls.specs.declared.gates.Reply.{Reply as GatesReply}
@@ -10,6 +10,7 @@ use Rattle.p2p_log.specs.declared.queue.Queue.TheVariants as queue
 use Rattle.p2p_log.specs.declared.queue.Side.{Side}
 use Rattle.p2p_log.specs.declared.queue.Side.TheVariants as side
 use Rattle.p2p_log.specs.declared.item.Item.{Item}
+use Rattle.p2p_log.specs.declared.item.Item.TheVariants as item
 use Rattle.p2p_log.specs.declared.item.Envelope.{Envelope}
 use Rattle.p2p_log.specs.declared.entry.Entry.{Entry}
 use Rattle.p2p_log.specs.declared.entry.Reply.{Reply}
@@ -28,6 +29,23 @@ use Rattle.p2p_net_node.specs.Places as place
 use Rattle.p2p_net_node.specs.declared.node.Node.{Node}
 use Rattle.p2p_net_dialing.proofs.DroppedEnds.{dropped, LeavesLinks, end_by, DidBeside}
 use Rattle.p2p_net_dialing.proofs.HandingOn.{none_gone}
+use Rattle.p2p_net_tracker.specs.Stands.{is_told}
+
+-- a queue in which a tracker tells something is no listener's
+pub told_no_arrivals : (n m : ℕ) (q : Queue) → is_told n q ≡ true → same_queue (queue.Arrivals m) q ≡ false
+told_no_arrivals n m (queue.Update j) h = refl
+told_no_arrivals n m (queue.Dialer j) h = refl
+told_no_arrivals n m (queue.Control j c) h = refl
+told_no_arrivals n m (queue.Answer j c) h = refl
+told_no_arrivals n m (queue.Updates j c) h = refl
+told_no_arrivals n m (queue.Blocked j c) h = refl
+told_no_arrivals n m (queue.Handshake j c) h = refl
+told_no_arrivals n m _ h = cc
+
+-- what was asked for a handshake that begins, as an item
+abbrev pub asked_for : ℕ → Key → GatesReply → Option Item
+asked_for k key gates.Admitted = Some (item.AskAcceptable k key)
+asked_for k key _ = None
 
 -- the parts that a step of a listener changes
 abbrev pub named : List place.Part

@@ -1,6 +1,7 @@
 pub mod Arrivals
 pub mod Attempting
 pub mod Between
+pub mod Cutting
 pub mod DialAnswers
 pub mod Dialing
 pub mod DroppedEnds
@@ -8,6 +9,7 @@ pub mod Exchanged
 pub mod Finished
 pub mod HandingOn
 pub mod Handshaking
+pub mod HandshakeLinks
 pub mod Heard
 pub mod Linked
 pub mod Listened

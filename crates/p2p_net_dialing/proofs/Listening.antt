@@ -72,24 +72,8 @@ use Rattle.p2p_net_dialing.specs.Dialing.{refused_by, ListenedBy}
 use Rattle.p2p_net_node.specs.Stands.{NodeStands}
 use Rattle.p2p_net_node.specs.declared.node.Node.{Node}
 use Rattle.p2p_net_dialing.proofs.DroppedEnds.{dropped, is_of_link, told_unlinked, unlinked_stay, LeavesLinks, end_by}
-use Rattle.p2p_net_dialing.proofs.Heard.{refused_for, lost_by, Heard, update_leaves, arrival_leaves, idle_leaves}
+use Rattle.p2p_net_dialing.proofs.Heard.{told_no_arrivals, asked_for, refused_for, lost_by, Heard, update_leaves, arrival_leaves, idle_leaves}
 use Rattle.p2p_net_node.proofs.Performing.{asked, IsStill, line-still, part_still}
-
--- a queue in which a tracker tells something is no listener's
-told_no_arrivals : (n m : ℕ) (q : Queue) → is_told n q ≡ true → same_queue (queue.Arrivals m) q ≡ false
-told_no_arrivals n m (queue.Update j) h = refl
-told_no_arrivals n m (queue.Dialer j) h = refl
-told_no_arrivals n m (queue.Control j c) h = refl
-told_no_arrivals n m (queue.Answer j c) h = refl
-told_no_arrivals n m (queue.Updates j c) h = refl
-told_no_arrivals n m (queue.Blocked j c) h = refl
-told_no_arrivals n m (queue.Handshake j c) h = refl
-told_no_arrivals n m _ h = cc
-
--- what was asked for a handshake that begins, as an item
-abbrev asked_for : ℕ → Key → GatesReply → Option Item
-asked_for k key gates.Admitted = Some (item.AskAcceptable k key)
-asked_for k key _ = None
 
 module _ (configs : List Config) (log : List Entry) (moment seed n : ℕ) (x y : Node) (r : Row) (over : Option ℕ) (s : NodeStands configs log n x) (late : latest_moment (events_of log) ≤ moment) (up : is_up log n ≡ true)
     (rest : y ≡ record x { tracker = y.tracker; listening = y.listening }) (what : Option Took) (over_is : over ≡ refused_by what)
@@ -361,9 +345,6 @@ module _ (configs : List Config) (log : List Entry) (moment seed n : ℕ) (x y :
       took_told (gates.Limited i j) name there = ap (listening.took_by (T_told (gates.Limited i j)).stepped) there
       took_told gates.TooMany name there = ap (listening.took_by (T_told gates.TooMany).stepped) there
 
-      itself : (c : ℕ) → c ≤ c
-      itself c = omega arith
-
       -- the one that begins, by what the log tells of it
       running : IsRunning (facts_begun configs log (e (due gates.Admitted)) n) k (new_handshake k a actor.handshake_timeout moment)
       running =
@@ -383,7 +364,7 @@ module _ (configs : List Config) (log : List Entry) (moment seed n : ℕ) (x y :
       kept_told : (told : GatesReply) → AreKept configs log (e (due told)) n (log ++ e (due told) ∷ []) (listening.handshakes_after (T_told told).stepped k x.listening.handshakes)
       kept_told gates.Admitted =
           handshakes_begun configs log (e (due gates.Admitted)) n x.listening.handshakes (new_handshake k a actor.handshake_timeout moment) (begins (due gates.Admitted))
-          (tells_none (due gates.Admitted)) (listens.untold k (itself k)) running listens.handshakes
+          (tells_none (due gates.Admitted)) (listens.untold k (omega arith)) running listens.handshakes
       kept_told gates.Private = handshakes_kept configs log (e (due gates.Private)) n x.listening.handshakes (begins_none (due gates.Private) refl) (tells_none (due gates.Private)) listens.handshakes
       kept_told gates.Unregistered = handshakes_kept configs log (e (due gates.Unregistered)) n x.listening.handshakes (begins_none (due gates.Unregistered) refl) (tells_none (due gates.Unregistered)) listens.handshakes
       kept_told (gates.Limited i j) = handshakes_kept configs log (e (due (gates.Limited i j))) n x.listening.handshakes (begins_none (due (gates.Limited i j)) refl) (tells_none (due (gates.Limited i j))) listens.handshakes
@@ -465,9 +446,6 @@ module _ (configs : List Config) (log : List Entry) (moment seed n : ℕ) (x y :
           })))
 
       -- one that is admitted
-      open_mailbox : m.desk.messages.closed ≡ false
-      open_mailbox = tracked.is_open
-
       admitted : turn ≡ T_told gates.Admitted → told_by ≡ gates.Admitted → Tracks what → Done
       admitted so by tracks =
           let it : Tracks (Some (takes.Arrival (name_of z) gates.Admitted None (Some (item.AskAcceptable k a.key)))) = tracks_told gates.Admitted so tracks in
@@ -484,7 +462,7 @@ module _ (configs : List Config) (log : List Entry) (moment seed n : ℕ) (x y :
             admits = begins (due gates.Admitted);
             source_is = ap source_of (taken_at-last log (e d) ∙ took_is gates.Admitted);
             rest = it.1 ∙ ap (λ (u : Mailbox Key). record x.tracker { mailbox = u; names = x.tracker.names ++ (k, 0) ∷ [] }) (w ∙ sym (mailbox_now w));
-            items = ap (λ (u : Mailbox Key). u.desk.messages.items) w ∙ kept_open m.desk.messages.closed (has_room m.desk.messages) m.desk.messages.items (message.Acceptable a.key a.from.ip k) open_mailbox;
+            items = ap (λ (u : Mailbox Key). u.desk.messages.items) w ∙ kept_open m.desk.messages.closed (has_room m.desk.messages) m.desk.messages.items (message.Acceptable a.key a.from.ip k) tracked.is_open;
             closed = ap (λ (u : Mailbox Key). u.desk.messages.closed) w;
             capacity = ap (λ (u : Mailbox Key). u.desk.messages.capacity) w;
             questions = ap (λ (u : Mailbox Key). length u.desk.questions) w;

@@ -1,5 +1,5 @@
 -- What the end of an exchange of keys over a link comes to.
-use Rattle.std.specs.Prelude.{◌≡◌, ℕ, Bool, false, ◌&&◌, List, [], ◌∷◌, ◌++◌, length, Option, Some, None, is_some, slice_get, slice_set, if◌then◌else◌}
+use Rattle.std.specs.Prelude.{◌≡◌, ℕ, Bool, false, ◌&&◌, not, List, [], ◌∷◌, ◌++◌, length, Option, Some, None, is_some, slice_get, slice_set, if◌then◌else◌}
 use Rattle.p2p_base.specs.declared.key.Key.{Key}
 use Rattle.p2p_log.specs.declared.queue.Queue.{Queue}
 use Rattle.p2p_log.specs.declared.queue.Queue.TheVariants as queue
@@ -15,6 +15,7 @@ use Rattle.p2p_net_queues.specs.Board.{held}
 use Rattle.p2p_net_queues.specs.Tables as table
 use Rattle.p2p_net_queues.specs.Tables.{AreBut}
 use Rattle.p2p_net_gates.specs.Attempts.{dialed_key, Finishes}
+use Rattle.p2p_net_links.specs.Cutting.{is_cut_at}
 use Rattle.p2p_net_links.specs.declared.links.Links.{Links}
 use Rattle.p2p_net_gates.specs.Handshaking.{is_accepting, finished_in}
 use Rattle.p2p_net_tracker.specs.Finishing.{finished_put, told_finished}
@@ -28,9 +29,9 @@ abbrev pub accepts_end : Option ListeningEnd → Node → Bool
 accepts_end (Some (listening.Handshake h)) x = is_accepting (table.at x.listening.handshakes h)
 accepts_end _ x = false
 
--- what the attempt of the first node and the listening end at the second come to
-abbrev pub said : Bool → Option Key → Option ListeningEnd → Node → Option Bool
-said ok dialed end y = exchanged (is_some dialed && is_some end) (ok && is_dialed y.config.public_key dialed) (accepts_end end y)
+-- what the attempt of the first node and the listening end at the second come to, by whether the link was cut
+abbrev pub said : Bool → Bool → Option Key → Option ListeningEnd → Node → Option Bool
+said ok cut dialed end y = exchanged ((is_some dialed && is_some end) && not cut) (ok && is_dialed y.config.public_key dialed) (accepts_end end y)
 
 -- ---- what both ends are told
 
@@ -76,7 +77,7 @@ pub record FinishesOver (k link : ℕ) (ok : Bool) (o : Opening) (old new : List
   pub second : Node
   pub at_first : slice_get old o.node ≡ Some first
   pub at_second : slice_get old o.to ≡ Some second
-  pub finishes : FinishesBy (said ok (dialed_key (table.at first.dialing.attempts o.attempt)) (table.at second.listening.ends link) second) k link o (table.at second.listening.ends link) old new l links r
+  pub finishes : FinishesBy (said ok (is_cut_at l link) (dialed_key (table.at first.dialing.attempts o.attempt)) (table.at second.listening.ends link) second) k link o (table.at second.listening.ends link) old new l links r
 
 abbrev pub IsFinishedOver : Option Opening → ℕ → ℕ → Bool → List Node → List Node → Links → Links → Row → Type 0
 IsFinishedOver None k link ok old new l links r = (r ≡ only reply.Gone) × ((new ≡ old) × (links ≡ l))

@@ -1,3 +1,4 @@
+pub mod Cutting
 pub mod Dialing
 pub mod Finishing
 pub mod Linking

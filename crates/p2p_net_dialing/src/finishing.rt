@@ -44,11 +44,17 @@ fn accepts(node: &Node, end: Option<ListeningEnd>) -> bool
     }
 }
 
-/// What an attempt that dialed this key and the listening end at this node come to.
-fn verdict_at(node: &Node, ok: bool, dialed: Option<Key>, end: Option<ListeningEnd>) -> Option<bool>
-    ensures { result ≡ said ok dialed end node.now }
+/// What an attempt that dialed this key and the listening end at this node come to, by whether their link was cut.
+fn verdict_at(
+    node: &Node,
+    ok: bool,
+    cut: bool,
+    dialed: Option<Key>,
+    end: Option<ListeningEnd>,
+) -> Option<bool>
+    ensures { result ≡ said ok cut dialed end node.now }
 {
-    let stand = dialed.is_some() && end.is_some();
+    let stand = dialed.is_some() && end.is_some() && !cut;
     let agree = ok && was_dialed(node.config.public_key, dialed);
     verdict(stand, agree, accepts(node, end))
 }
@@ -124,7 +130,7 @@ fn finish_over(
         .dialed_key(opening.attempt);
     let second = &nodes[opening.to as usize];
     let end = second.listening.end_of(link);
-    match verdict_at(second, ok, dialed, end) {
+    match verdict_at(second, ok, links.is_cut(link), dialed, end) {
         None => Ok(only(alloc, Reply::Pending)),
         Some(agree) => {
             links.finish(link);

@@ -4,4 +4,5 @@ pub mod DialerChanges
 pub mod Handshakes
 pub mod LeavingListener
 pub mod ListenerChanges
+pub mod ListenerSteps
 pub mod ListeningEnds

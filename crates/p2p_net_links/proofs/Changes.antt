@@ -22,6 +22,7 @@ use Rattle.p2p_log.specs.QueueCode.{same_queue}
 use Rattle.p2p_log.specs.Lines.{line, stands_in, placed}
 use Rattle.p2p_log.proofs.Queues.{same_queue-sym}
 use Rattle.p2p_log_rules.specs.declared.row.Opening.{Opening}
+use Rattle.p2p_log_rules.specs.Cutting.{is_cut}
 use Rattle.p2p_log_rules.specs.Dropping.{is_dropped}
 use Rattle.p2p_log_rules.specs.Effect.{ping_puts}
 use Rattle.p2p_log_rules.specs.Facts.{state_from, with_named}
@@ -31,6 +32,7 @@ use Rattle.p2p_log_rules.specs.Pings.{ping_frame}
 use Rattle.p2p_log_rules.specs.Tellings.{Telling}
 use Rattle.p2p_log_rules.specs.Tellings as telling
 use Rattle.p2p_log_rules.specs.Told.{done_tells, link_tells, tells, told}
+use Rattle.p2p_log_rules.proofs.Cutting.{cut_kinds, is_cut-kept, is_cut-none}
 use Rattle.p2p_log_rules.proofs.Dialed.{link_kinds, dialer_of-kept, dialer_of-linked}
 use Rattle.p2p_log_rules.proofs.Families.{kind, kinds_of, has, are_apart}
 use Rattle.p2p_log_rules.proofs.Links.{exchange_kinds, openings_of-kept, openings_of-linked, openings_of-finished, openings_of-none}
@@ -39,6 +41,7 @@ use Rattle.p2p_log_rules.proofs.Tellings.{or_left}
 use Rattle.p2p_net_queues.specs.Tables.{at, waiting, pushed_at, popped_at}
 use Rattle.p2p_net_queues.proofs.Holding.{longer}
 use Rattle.p2p_net_queues.proofs.Tables.{waiting-pushed_at, waiting-popped_at, at-inserted}
+use Rattle.p2p_net_links.specs.Cutting.{is_cut_at}
 use Rattle.p2p_net_links.specs.Dropping.{dropped_of, is_dropped_at}
 use Rattle.p2p_net_links.specs.Links.{no_links, way_of, with_way, written_way, batch_way, opened_with}
 use Rattle.p2p_net_links.specs.Stands.{LinksStand}
@@ -89,25 +92,46 @@ pub dialers_new : (k : ℕ) → at no_links.dialers k ≡ dialer_of [] k
 unfolding told state_from
 dialers_new k = refl
 
--- ---- an entry that leaves alone who dialed, and between whom keys are exchanged
+-- ---- an entry that leaves alone who dialed, between whom keys are exchanged, and which links were cut
+
+-- the kinds of tellings by which a link is made, an exchange over one ends, and one is cut
+abbrev pub opening_kinds : List ℕ
+opening_kinds = 10 ∷ 21 ∷ 75 ∷ []
 
 -- it tells of none
 abbrev pub OpensNone : List Entry → Entry → Type 0
-OpensNone log e = TellsNone (told log) log e exchange_kinds
+OpensNone log e = TellsNone (told log) log e opening_kinds
+
+-- it ends no exchange, and cuts no link
+pub exchanges_less : (log : List Entry) (e : Entry) → OpensNone log e → TellsNone (told log) log e exchange_kinds
+exchanges_less log e none = weaker (λ t. has opening_kinds (kind t)) (λ t. has exchange_kinds (kind t)) (λ t h. less (10 == kind t) (21 == kind t) (75 == kind t) h) (tells (told log) log e) none
+  where
+    less : (a b c : Bool) → (a || (b || (c || false))) ≡ false → (a || (b || false)) ≡ false
+    less true b c h = h
+    less false true c h = h
+    less false false c h = refl
+
+pub cuts_less : (log : List Entry) (e : Entry) → OpensNone log e → TellsNone (told log) log e cut_kinds
+cuts_less log e none = weaker (λ t. has opening_kinds (kind t)) (λ t. has cut_kinds (kind t)) (λ t h. less (10 == kind t) (21 == kind t) (75 == kind t) h) (tells (told log) log e) none
+  where
+    less : (a b c : Bool) → (a || (b || (c || false))) ≡ false → (c || false) ≡ false
+    less true b c h = cc
+    less false true c h = cc
+    less false false c h = h
 
 -- it makes no link
 abbrev pub DialsNone : List Entry → Entry → Type 0
 DialsNone log e = TellsNone (told log) log e link_kinds
 
 pub dials_less : (log : List Entry) (e : Entry) → OpensNone log e → DialsNone log e
-dials_less log e none = weaker (λ t. has exchange_kinds (kind t)) (λ t. has link_kinds (kind t)) less (tells (told log) log e) none
+dials_less log e none = weaker (λ t. has opening_kinds (kind t)) (λ t. has link_kinds (kind t)) less (tells (told log) log e) none
   where
-    less : (t : Telling) → has exchange_kinds (kind t) ≡ false → has link_kinds (kind t) ≡ false
-    less t none = ap (λ b. b || false) (or_left (10 == kind t) ((21 == kind t) || false) none)
+    less : (t : Telling) → has opening_kinds (kind t) ≡ false → has link_kinds (kind t) ≡ false
+    less t none = ap (λ b. b || false) (or_left (10 == kind t) ((21 == kind t) || ((75 == kind t) || false)) none)
 
 -- by its act
-pub openings_unmoved : (log : List Entry) (e : Entry) → are_apart (kinds_of e.event.act) exchange_kinds ≡ true → OpensNone log e
-openings_unmoved log e apart = apart_none (told log) log e exchange_kinds apart
+pub openings_unmoved : (log : List Entry) (e : Entry) → are_apart (kinds_of e.event.act) opening_kinds ≡ true → OpensNone log e
+openings_unmoved log e apart = apart_none (told log) log e opening_kinds apart
 
 -- or by its reply, whatever its act: whether that says that it was done
 abbrev pub is_ok_reply : Reply → Bool
@@ -123,19 +147,21 @@ openings_unanswered log e h = by e.event.act refl
   where
     by : (a : Act) → e.event.act ≡ a → OpensNone log e
     by (act.Connect d from n to) acts =
-        ap (list_any (λ t. has exchange_kinds (kind t))) (tells_act (told log) log e (act.Connect d from n to) acts)
-        ∙ undone (λ t. has exchange_kinds (kind t)) e.reply (telling.dial_answered n d (length log) ∷ link_tells n d (length log) to e.puts) h
+        ap (list_any (λ t. has opening_kinds (kind t))) (tells_act (told log) log e (act.Connect d from n to) acts)
+        ∙ undone (λ t. has opening_kinds (kind t)) e.reply (telling.dial_answered n d (length log) ∷ link_tells n d (length log) to e.puts) h
     by (act.Finish link ok) acts =
-        ap (list_any (λ t. has exchange_kinds (kind t))) (tells_act (told log) log e (act.Finish link ok) acts) ∙ undone (λ t. has exchange_kinds (kind t)) e.reply (telling.exchange_ended link ∷ []) h
-    by a acts = openings_unmoved log e (ap (λ b. are_apart (kinds_of b) exchange_kinds) acts)
+        ap (list_any (λ t. has opening_kinds (kind t))) (tells_act (told log) log e (act.Finish link ok) acts) ∙ undone (λ t. has opening_kinds (kind t)) e.reply (telling.exchange_ended link ∷ []) h
+    by (act.Cut link) acts =
+        ap (list_any (λ t. has opening_kinds (kind t))) (tells_act (told log) log e (act.Cut link) acts) ∙ undone (λ t. has opening_kinds (kind t)) e.reply (telling.link_cut link ∷ []) h
+    by a acts = openings_unmoved log e (ap (λ b. are_apart (kinds_of b) opening_kinds) acts)
 
 -- or by its puts: a dial that was answered, but not with a link
 pub openings_linkless : (log : List Entry) (e : Entry) (d n to : ℕ) (from : _) (one : Queue × Item) → e.event.act ≡ act.Connect d from n to → e.puts ≡ one ∷ [] → OpensNone log e
 openings_linkless log e d n to from one acts puts =
-    ap (list_any (λ t. has exchange_kinds (kind t))) (tells_act (told log) log e (act.Connect d from n to) acts)
-    ∙ (ap (λ p. list_any (λ t. has exchange_kinds (kind t)) (done_tells e.reply (telling.dial_answered n d (length log) ∷ link_tells n d (length log) to p))) puts ∙ lone e.reply)
+    ap (list_any (λ t. has opening_kinds (kind t))) (tells_act (told log) log e (act.Connect d from n to) acts)
+    ∙ (ap (λ p. list_any (λ t. has opening_kinds (kind t)) (done_tells e.reply (telling.dial_answered n d (length log) ∷ link_tells n d (length log) to p))) puts ∙ lone e.reply)
   where
-    lone : (r : Reply) → list_any (λ t. has exchange_kinds (kind t)) (done_tells r (telling.dial_answered n d (length log) ∷ [])) ≡ false
+    lone : (r : Reply) → list_any (λ t. has opening_kinds (kind t)) (done_tells r (telling.dial_answered n d (length log) ∷ [])) ≡ false
     lone reply.Ok = refl
     lone _ = refl
 
@@ -145,22 +171,26 @@ openings_linkless log e d n to from one acts puts =
 pub record Opens (log : List Entry) (e : Entry) (o : Opening) : Type 0 where
   pub dialers : (k : ℕ) → dialer_of (log ++ e ∷ []) k ≡ with_named (length log) (Some o.node) (dialer_of log) k
   pub openings : (k : ℕ) → openings_of (log ++ e ∷ []) k ≡ with_named (length log) (Some o) (openings_of log) k
+  pub cuts : TellsNone (told log) log e cut_kinds
 
 pub openings_opened : (log : List Entry) (e : Entry) (o : Opening) (from : _) (one two : Queue × Item) (rest : List (Queue × Item)) → e.event.act ≡ act.Connect o.attempt from o.node o.to → e.reply ≡ reply.Ok
     → e.puts ≡ one ∷ two ∷ rest → Opens log e o
 openings_opened log e o from one two rest acts answered puts = record {
   dialers = dialer_of-linked log e o.attempt o.node o.to from one two rest acts answered puts;
   openings = openings_of-linked log e o.attempt o.node o.to from one two rest acts answered puts;
+  cuts = apart_none (told log) log e cut_kinds (ap (λ a. are_apart (kinds_of a) cut_kinds) acts);
 }
 
 -- an exchange ends
 pub record Finishes (log : List Entry) (e : Entry) (link : ℕ) : Type 0 where
   pub dials : DialsNone log e
+  pub cuts : TellsNone (told log) log e cut_kinds
   pub openings : (k : ℕ) → openings_of (log ++ e ∷ []) k ≡ with_named link None (openings_of log) k
 
 pub openings_finished : (log : List Entry) (e : Entry) (link : ℕ) (ok : Bool) → e.event.act ≡ act.Finish link ok → e.reply ≡ reply.Ok → Finishes log e link
 openings_finished log e link ok acts answered = record {
   dials = apart_none (told log) log e link_kinds (ap (λ a. are_apart (kinds_of a) link_kinds) acts);
+  cuts = apart_none (told log) log e cut_kinds (ap (λ a. are_apart (kinds_of a) cut_kinds) acts);
   openings = openings_of-finished log e link ok acts answered;
 }
 
@@ -175,7 +205,7 @@ dialers_kept log e dialers is none k = is k ∙ sym (dialer_of-kept log e none k
 
 -- an entry that leaves these alone
 pub openings_kept : (log : List Entry) (e : Entry) (openings : List (ℕ × Opening)) → ((k : ℕ) → at openings k ≡ openings_of log k) → OpensNone log e → (k : ℕ) → at openings k ≡ openings_of (log ++ e ∷ []) k
-openings_kept log e openings is none k = is k ∙ sym (openings_of-kept log e none k)
+openings_kept log e openings is none k = is k ∙ sym (openings_of-kept log e (exchanges_less log e none) k)
 
 -- another of this name, or none any more
 named : (name k : ℕ) (o : Option Opening) (openings : List (ℕ × Opening)) (before : ℕ → Option Opening) → ((j : ℕ) → at openings j ≡ before j)
@@ -189,6 +219,16 @@ pub dropped_new : (link : ℕ) (s : Side) → is_dropped_at no_links s link ≡ 
 dropped_new link side.Out = sym (is_dropped-none link side.Out)
 dropped_new link side.In = sym (is_dropped-none link side.In)
 
+-- ---- which links were cut
+
+-- no links stand for no log
+pub cut_new : (link : ℕ) → is_cut_at no_links link ≡ is_cut [] link
+cut_new link = sym (is_cut-none link)
+
+-- an entry that cuts none
+pub cut_kept : (log : List Entry) (e : Entry) (l : Links) → ((k : ℕ) → is_cut_at l k ≡ is_cut log k) → TellsNone (told log) log e cut_kinds → (k : ℕ) → is_cut_at l k ≡ is_cut (log ++ e ∷ []) k
+cut_kept log e l is none k = is k ∙ sym (is_cut-kept log e none k)
+
 -- ---- the links
 
 -- an entry that leaves them alone
@@ -199,6 +239,7 @@ links_frame configs log e l st lines same none = record {
   dialers = dialers_kept log e l.dialers st.dialers (dials_less log e same);
   openings = openings_kept log e l.openings st.openings same;
   dropped = λ link s. st.dropped link s ∙ sym (is_dropped-kept log e none link s);
+  cut = cut_kept log e l st.cut (cuts_less log e same);
 }
 
 same_ways : (l : Links) (s : Side) (ds : List (ℕ × ℕ)) (os : List (ℕ × Opening)) → way_of (record l { dialers = ds; openings = os }) s ≡ way_of l s
@@ -212,6 +253,10 @@ same_dialers l side.In w = refl
 same_openings : (l : Links) (s : Side) (w : List (ℕ × List Envelope)) → (with_way l s w).openings ≡ l.openings
 same_openings l side.Out w = refl
 same_openings l side.In w = refl
+
+same_cut : (l : Links) (s : Side) (w : List (ℕ × List Envelope)) → (with_way l s w).cut ≡ l.cut
+same_cut l side.Out w = refl
+same_cut l side.In w = refl
 
 same_dropped : (l : Links) (s t : Side) (w : List (ℕ × List Envelope)) → dropped_of (with_way l s w) t ≡ dropped_of l t
 same_dropped l side.Out side.Out w = refl
@@ -227,21 +272,24 @@ with_way_kept configs log e l s w st same none now = record {
   dialers = λ k. ap (λ (m : List (ℕ × ℕ)). at m k) (same_dialers l s w) ∙ dialers_kept log e l.dialers st.dialers (dials_less log e same) k;
   openings = λ k. ap (λ (m : List (ℕ × Opening)). at m k) (same_openings l s w) ∙ openings_kept log e l.openings st.openings same k;
   dropped = λ link t. ap (λ (m : List (ℕ × Unit {0})). is_some (at m link)) (same_dropped l s t w) ∙ (st.dropped link t ∙ sym (is_dropped-kept log e none link t));
+  cut = λ link. ap (λ (m : List (ℕ × Unit {0})). is_some (at m link)) (same_cut l s w) ∙ cut_kept log e l st.cut (cuts_less log e same) link;
 }
 
 same_drops : (l : Links) (s : Side) (ds : List (ℕ × ℕ)) (os : List (ℕ × Opening)) → dropped_of (record l { dialers = ds; openings = os }) s ≡ dropped_of l s
 same_drops l side.Out ds os = refl
 same_drops l side.In ds os = refl
 
--- an entry that changes no direction and drops no end, where these are who dialed and between whom keys are exchanged after it
+-- an entry that changes no direction, cuts no link and drops no end, where these are who dialed and between whom keys are exchanged after it
 with_openings : (configs : List Config) (log : List Entry) (e : Entry) (l : Links) (ds : List (ℕ × ℕ)) (os : List (ℕ × Opening)) → LinksStand configs log l
     → ((s : Side) (link : ℕ) → line (log ++ e ∷ []) (queue.Link link s) ≡ line log (queue.Link link s))
-    → ((k : ℕ) → at ds k ≡ dialer_of (log ++ e ∷ []) k) → ((k : ℕ) → at os k ≡ openings_of (log ++ e ∷ []) k) → DropsNone log e → LinksStand configs (log ++ e ∷ []) (record l { dialers = ds; openings = os })
-with_openings configs log e l ds os st lines dials is none = record {
+    → ((k : ℕ) → at ds k ≡ dialer_of (log ++ e ∷ []) k) → ((k : ℕ) → at os k ≡ openings_of (log ++ e ∷ []) k) → TellsNone (told log) log e cut_kinds → DropsNone log e
+    → LinksStand configs (log ++ e ∷ []) (record l { dialers = ds; openings = os })
+with_openings configs log e l ds os st lines dials is cuts none = record {
   waits = λ s link. ap (λ w. waiting w link) (same_ways l s ds os) ∙ (st.waits s link ∙ sym (lines s link));
   dialers = dials;
   openings = is;
   dropped = λ link s. ap (λ (m : List (ℕ × Unit {0})). is_some (at m link)) (same_drops l s ds os) ∙ (st.dropped link s ∙ sym (is_dropped-kept log e none link s));
+  cut = cut_kept log e l st.cut cuts;
 }
 
 -- the link of the entry's name is made, and keys are exchanged over it from then on
@@ -252,7 +300,7 @@ links_opened configs log e l o st lines opened none =
     with_openings configs log e l (insert_entry nat_cmp l.dialers (length log) o.node) (insert_entry nat_cmp l.openings (length log) o) st lines
     (λ k. at-inserted (length log) k o.node l.dialers ∙ (ap (λ v. cond (k == length log) (Some o.node) v) (st.dialers k) ∙ sym (opened.dialers k)))
     (λ k. at-inserted (length log) k o l.openings ∙ (named (length log) k (Some o) l.openings (openings_of log) st.openings ∙ sym (opened.openings k)))
-    none
+    opened.cuts none
 
 -- an exchange of keys has ended
 pub links_finished : (configs : List Config) (log : List Entry) (e : Entry) (l ls : Links) (link : ℕ) → LinksStand configs log l
@@ -263,7 +311,7 @@ pub links_finished : (configs : List Config) (log : List Entry) (e : Entry) (l l
 links_finished configs log e l ls link st lines finished out rest none =
     subst (LinksStand configs (log ++ e ∷ [])) (sym rest)
     (with_openings configs log e l l.dialers ls.openings st lines (dialers_kept log e l.dialers st.dialers finished.dials)
-    (λ k. out k ∙ (named link k None l.openings (openings_of log) st.openings ∙ sym (finished.openings k))) none)
+    (λ k. out k ∙ (named link k None l.openings (openings_of log) st.openings ∙ sym (finished.openings k))) finished.cuts none)
 
 -- a line without its first, by its code
 first_gone : (log : List Entry) (p q : Queue) (x : Envelope) (rest : List Envelope) (b : Bool) → same_queue p q ≡ b → (b ≡ true → line log q ≡ line log p) → line log p ≡ x ∷ rest → cond b (drop 1 (line log q)) (line log q) ≡ cond b rest (line log q)

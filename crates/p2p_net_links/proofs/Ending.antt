@@ -9,10 +9,8 @@ use Rattle.p2p_log.specs.declared.queue.Queue.{Queue}
 use Rattle.p2p_log.specs.declared.queue.Queue.TheVariants as queue
 use Rattle.p2p_log.specs.declared.queue.Side.{Side}
 use Rattle.p2p_log.specs.declared.queue.Side.TheVariants as side
-use Rattle.p2p_log.specs.declared.item.Item.{Item}
 use Rattle.p2p_log.specs.declared.item.Envelope.{Envelope}
 use Rattle.p2p_log.specs.declared.entry.Entry.{Entry}
-use Rattle.p2p_log.specs.declared.entry.Reply.{Reply}
 use Rattle.p2p_log.specs.declared.event.Act.{Act}
 use Rattle.p2p_log.specs.declared.event.Act.TheVariants as act
 use Rattle.p2p_log.specs.QueueCode.{same_queue}
@@ -20,16 +18,14 @@ use Rattle.p2p_log.specs.Lines.{line}
 use Rattle.p2p_log.proofs.QueueNames.{queue_from_same}
 use Rattle.p2p_log_rules.specs.declared.row.Opening.{Opening}
 use Rattle.p2p_log_rules.specs.Dropping.{LinkEnd, other_side, is_side, is_dropped, drops_of}
-use Rattle.p2p_log_rules.specs.Facts.{taken}
 use Rattle.p2p_net_queues.specs.Tables.{at, waiting, popped_at, cleared_at}
 use Rattle.p2p_net_queues.proofs.Tables.{waiting-popped_at, waiting-cleared_at, at-inserted}
 use Rattle.p2p_net_links.specs.Dropping.{dropped_of, with_dropped, is_dropped_at, end_dropped}
 use Rattle.p2p_net_links.specs.Links.{way_of, with_way}
 use Rattle.p2p_net_links.specs.Stands.{LinksStand}
 use Rattle.p2p_net_links.specs.declared.links.Links.{Links}
-use Rattle.p2p_net_links.proofs.Changes.{same_link, same_side, OpensNone, dials_less, openings_unmoved, dialers_kept, openings_kept}
+use Rattle.p2p_net_links.proofs.Changes.{same_link, same_side, OpensNone, opening_kinds, dials_less, cuts_less, openings_unmoved, dialers_kept, openings_kept, cut_kept}
 use Rattle.p2p_log_rules.proofs.Families.{kinds_of, are_apart}
-use Rattle.p2p_log_rules.proofs.Links.{exchange_kinds}
 use Rattle.p2p_log_rules.proofs.Dropping.{drops_none, drops_of-none, is_end_at, is_dropped-append}
 
 -- an entry drops the end of this link that writes in this direction: nothing is in flight towards it after it, and what is in flight
@@ -39,10 +35,11 @@ pub record DropsEnd (log : List Entry) (e : Entry) (link : ℕ) (s : Side) : Typ
   pub emptied : line (log ++ e ∷ []) (queue.Link link (other_side s)) ≡ []
   pub kept : (t : Side) (j : ℕ) → same_queue (queue.Link link (other_side s)) (queue.Link j t) ≡ false → line (log ++ e ∷ []) (queue.Link j t) ≡ line log (queue.Link j t)
 
--- what drops an end makes no link, and ends no exchange of keys
-opens_by : (one : LinkEnd) (ends : List LinkEnd) (a : Act) → (drops_none a ≡ true → ends ≡ []) → ends ≡ one ∷ [] → are_apart (kinds_of a) exchange_kinds ≡ true
+-- what drops an end makes no link, ends no exchange of keys, and cuts no link
+opens_by : (one : LinkEnd) (ends : List LinkEnd) (a : Act) → (drops_none a ≡ true → ends ≡ []) → ends ≡ one ∷ [] → are_apart (kinds_of a) opening_kinds ≡ true
 opens_by one ends (act.Connect d from n to) none some = let h : ends ≡ [] = none refl in cc
 opens_by one ends (act.Finish link ok) none some = let h : ends ≡ [] = none refl in cc
+opens_by one ends (act.Cut link) none some = let h : ends ≡ [] = none refl in cc
 opens_by one ends _ none some = refl
 
 pub drops_opens_none : (log : List Entry) (e : Entry) (one : LinkEnd) → drops_of log e ≡ one ∷ [] → OpensNone log e
@@ -66,6 +63,10 @@ dropped_dialers l side.In link w = refl
 dropped_openings : (l : Links) (s : Side) (link : ℕ) (w : List (ℕ × List Envelope)) → (dropped_with link s l w).openings ≡ l.openings
 dropped_openings l side.Out link w = refl
 dropped_openings l side.In link w = refl
+
+dropped_cut : (l : Links) (s : Side) (link : ℕ) (w : List (ℕ × List Envelope)) → (dropped_with link s l w).cut ≡ l.cut
+dropped_cut l side.Out link w = refl
+dropped_cut l side.In link w = refl
 
 -- and one end more is noted
 one_more : (b c : Bool) (o : Option (Unit {0})) → is_some (cond b (Some tt) o) ≡ ((b && true) || is_some o)
@@ -142,6 +143,7 @@ module _ (configs : List Config) (log : List Entry) (e : Entry) (l : Links) (lin
         openings = λ k. ap (λ (m : List (ℕ × Opening)). at m k) (dropped_openings l s link w) ∙ openings_kept log e l.openings st.openings same k;
         dropped = λ j t.
             noted l s t link j w ∙ (ap (λ b. ((j == link) && is_side t s) || b) (st.dropped j t) ∙ (or_swap ((j == link) && is_side t s) (is_dropped log j t) ∙ sym (is_dropped-one log e (link, s) d.drops j t)));
+        cut = λ k. ap (λ (m : List (ℕ × Unit {0})). is_some (at m k)) (dropped_cut l s link w) ∙ cut_kept log e l st.cut (cuts_less log e same) k;
       }
 
   -- the end is dropped

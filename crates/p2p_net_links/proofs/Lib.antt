@@ -1,3 +1,4 @@
 pub mod Changes
+pub mod Cuts
 pub mod Drops
 pub mod Ending

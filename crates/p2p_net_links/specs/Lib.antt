@@ -1,3 +1,4 @@
+pub mod Cutting
 pub mod Dropping
 pub mod Links
 pub mod Stands

@@ -17,7 +17,7 @@ use Rattle.p2p_net_queues.specs.Tables.{pushed_at}
 use Rattle.p2p_net_links.specs.declared.links.Links.{Links}
 
 abbrev pub no_links : Links
-no_links = record { outward = []; inward = []; dialers = []; openings = []; dropped_outward = []; dropped_inward = [] }
+no_links = record { outward = []; inward = []; dialers = []; openings = []; dropped_outward = []; dropped_inward = []; cut = [] }
 
 -- a link more, over which keys are exchanged between these
 abbrev pub opened_with : ℕ → Opening → Links → Links

@@ -1,4 +1,4 @@
-//! `Links`, the frames in flight, who dialed, between whom keys are exchanged, and which ends were dropped.
+//! `Links`, the frames in flight, who dialed, between whom keys are exchanged, which ends were dropped, and which links were cut.
 ghost use Rattle.std.specs.Prelude.{◌≡◌, ℕ, ◌++◌, ◌∷◌, [], length, map, slice_get, IfOk, OnOk};
 ghost use Rattle.std.specs.Option.{option_copied};
 ghost use Rattle.p2p_log_rules.specs.Effect.{only as only_reply, ping_puts};
@@ -13,7 +13,7 @@ use p2p_wire::Message;
 use std::alloc::{AllocError, Global};
 
 /// The frames in flight over each link, the oldest first, by the direction in which they go, who dialed it, between whom keys
-/// are exchanged over it, and which of its ends were dropped.
+/// are exchanged over it, which of its ends were dropped, and whether it was cut.
 pub struct Links {
     /// From the end that dialed.
     pub outward: Table<Deque<Envelope>>,
@@ -27,6 +27,8 @@ pub struct Links {
     pub dropped_outward: Table<()>,
     /// The links whose end that listened was dropped.
     pub dropped_inward: Table<()>,
+    /// The links that were cut.
+    pub cut: Table<()>,
 }
 
 impl Drop for Links {
@@ -38,6 +40,7 @@ impl Drop for Links {
             openings: _openings,
             dropped_outward: _dropped_outward,
             dropped_inward: _dropped_inward,
+            cut: _cut,
         } = self;
     }
 }
@@ -113,6 +116,7 @@ impl Links {
             openings: Table::new(alloc),
             dropped_outward: Table::new(alloc),
             dropped_inward: Table::new(alloc),
+            cut: Table::new(alloc),
         }
     }
 

@@ -41,7 +41,7 @@ use Rattle.p2p_net_connections.specs.Stands.{BeginsNone}
 use Rattle.p2p_net_connections.proofs.Changes.{connections_frame}
 use Rattle.p2p_net_links.specs.Stands.{LinksStand}
 use Rattle.p2p_net_links.specs.declared.links.Links.{Links}
-use Rattle.p2p_net_links.proofs.Changes.{openings_unmoved, links_frame}
+use Rattle.p2p_net_links.proofs.Changes.{opening_kinds, openings_unmoved, links_frame}
 use Rattle.p2p_log_rules.proofs.Dropping.{drops_none}
 use Rattle.p2p_net_links.proofs.Drops.{drops_none-act}
 use Rattle.p2p_net_connections.proofs.SpawnerChanges.{spawner_kept}
@@ -56,7 +56,6 @@ use Rattle.p2p_log_rules.proofs.Connections.{steps_sender, steps_receiver, begin
 use Rattle.p2p_log_rules.specs.Handshakes.{handshakes_of}
 use Rattle.p2p_log_rules.specs.Told.{tells, told}
 use Rattle.p2p_log_rules.proofs.Handshakes.{handshake_kinds, handshakes_of-apart, handshakes_of-elsewhere, handshakes_of-another}
-use Rattle.p2p_log_rules.proofs.Links.{exchange_kinds}
 use Rattle.p2p_log_rules.proofs.LinkTells.{quiet_told}
 use Rattle.p2p_log_rules.proofs.Routing.{route_kinds}
 use Rattle.p2p_log_rules.proofs.Steps.{steps_tracker, steps_spawner}
@@ -338,10 +337,11 @@ part_frame listener configs log ev n x s h late =
     (listener_untold log e n configs (listener_unnamed log e n ev.act (effect-act configs log ev) h) (line-unnamed configs log ev (queue.Arrivals n) h))
 part_frame spawner configs log ev n x s h late = spawner_kept configs log (effect configs log ev) n x.spawning s (line-unnamed configs log ev (queue.Spawner n) h)
 
--- an act that does not name the links opens none, and ends no exchange over one
-unopened : (log : List Entry) (a : Act) → names log a links ≡ false → are_apart (kinds_of a) exchange_kinds ≡ true
+-- an act that does not name the links opens none, ends no exchange over one, and cuts none
+unopened : (log : List Entry) (a : Act) → names log a links ≡ false → are_apart (kinds_of a) opening_kinds ≡ true
 unopened log (act.Connect e from n to) h = cc
 unopened log (act.Finish link ok) h = cc
+unopened log (act.Cut link) h = cc
 unopened log _ h = refl
 
 -- and drops no end of one
@@ -357,5 +357,5 @@ undropped log _ h = refl
 pub links_kept : (configs : List Config) (log : List Entry) (ev : Event) (l : Links) → LinksStand configs log l → names log ev.act links ≡ false → LinksStand configs (log ++ effect configs log ev ∷ []) l
 links_kept configs log ev l s h =
     links_frame configs log (effect configs log ev) l s (λ t link. line-unnamed configs log ev (queue.Link link t) h)
-    (openings_unmoved log (effect configs log ev) (ap (λ b. are_apart (kinds_of b) exchange_kinds) (effect-act configs log ev) ∙ unopened log ev.act h))
+    (openings_unmoved log (effect configs log ev) (ap (λ b. are_apart (kinds_of b) opening_kinds) (effect-act configs log ev) ∙ unopened log ev.act h))
     (drops_none-act log (effect configs log ev) (ap drops_none (effect-act configs log ev) ∙ undropped log ev.act h))

@@ -2,7 +2,6 @@ pub mod ActKinds
 pub mod EachPart
 pub mod Faults
 pub mod Frames
-pub mod Keys
 pub mod LinkedNodes
 pub mod Nodes
 pub mod Performing

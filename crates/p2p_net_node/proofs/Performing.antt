@@ -41,7 +41,7 @@ use Rattle.p2p_net_router.proofs.Unrouted.{unrouted_untaken}
 use Rattle.p2p_net_connections.proofs.Changes.{connections_frame}
 use Rattle.p2p_net_links.specs.Stands.{LinksStand}
 use Rattle.p2p_net_links.specs.declared.links.Links.{Links}
-use Rattle.p2p_net_links.proofs.Changes.{OpensNone, openings_unmoved, is_ok_reply, openings_unanswered, links_frame}
+use Rattle.p2p_net_links.proofs.Changes.{OpensNone, opening_kinds, openings_unmoved, is_ok_reply, openings_unanswered, links_frame}
 use Rattle.p2p_net_links.proofs.Drops.{DropsNone, is_idle_reply, drops_none-act, drops_none-idle}
 use Rattle.p2p_net_gates.proofs.Handshakes.{nothing_tells}
 use Rattle.p2p_net_connections.proofs.SpawnerChanges.{spawner_kept}
@@ -56,7 +56,7 @@ use Rattle.p2p_log_rules.specs.declared.row.ListeningEnd.{ListeningEnd}
 use Rattle.p2p_log_rules.specs.Links.{listening_ends_of}
 use Rattle.p2p_log_rules.proofs.Families.{kinds_of, are_apart}
 use Rattle.p2p_log_rules.proofs.Handshakes.{Begins, Ends, handshakes_now}
-use Rattle.p2p_log_rules.proofs.Links.{exchange_kinds, listening_kinds, listening_ends_of-apart, listening_ends_of-listened, listening_ends_of-shaken}
+use Rattle.p2p_log_rules.proofs.Links.{listening_kinds, listening_ends_of-apart, listening_ends_of-listened, listening_ends_of-shaken}
 use Rattle.p2p_tracker_calls.specs.declared.gates.Reply.TheVariants as gates
 use Rattle.p2p_log_rules.proofs.Steps.{steps_tracker}
 use Rattle.p2p_log_rules.proofs.Answers.{takes_answer}
@@ -109,6 +109,8 @@ is_quiet (act.Close c n) reply.Ok = false
 is_quiet (act.Close c n) r = true
 is_quiet (act.Finish link ok) reply.Ok = false
 is_quiet (act.Finish link ok) r = true
+is_quiet (act.Cut link) reply.Ok = false
+is_quiet (act.Cut link) r = true
 is_quiet a r = true
 
 quiet_registers : (configs : List Config) (n : ℕ) (a : Act) (r : Reply) → is_quiet a r ≡ true → registers_at configs n a ≡ []
@@ -300,7 +302,7 @@ part_still listener configs log e n x a rep s is q h =
     })
 part_still spawner configs log e n x a rep s is q h = spawner_kept configs log e n x.spawning s (line-still log e rep (queue.Spawner n) h)
 
--- no link is opened, and no exchange over one ends
+-- no link is opened, no exchange over one ends, and none is cut
 quiet_opens : (log : List Entry) (e : Entry) (a : Act) (rep : Reply) → e.event.act ≡ a → is_quiet a rep ≡ true → e.reply ≡ rep → OpensNone log e
 quiet_opens log e (act.Connect d from n to) rep is q told = cc
 quiet_opens log e (act.Finish link ok) rep is q told = openings_unanswered log e (ap is_ok_reply told ∙ unanswered rep q)
@@ -308,7 +310,12 @@ quiet_opens log e (act.Finish link ok) rep is q told = openings_unanswered log e
     unanswered : (r : Reply) → is_quiet (act.Finish link ok) r ≡ true → is_ok_reply r ≡ false
     unanswered reply.Ok h = cc
     unanswered _ h = refl
-quiet_opens log e _ rep is q told = openings_unmoved log e (ap (λ b. are_apart (kinds_of b) exchange_kinds) is)
+quiet_opens log e (act.Cut link) rep is q told = openings_unanswered log e (ap is_ok_reply told ∙ uncut rep q)
+  where
+    uncut : (r : Reply) → is_quiet (act.Cut link) r ≡ true → is_ok_reply r ≡ false
+    uncut reply.Ok h = cc
+    uncut _ h = refl
+quiet_opens log e _ rep is q told = openings_unmoved log e (ap (λ b. are_apart (kinds_of b) opening_kinds) is)
 
 -- a step of a listener or of a handshake
 abbrev steps_gate : Act → Bool

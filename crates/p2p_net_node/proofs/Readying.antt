@@ -239,6 +239,13 @@ module _ (configs : List Config) (log : List Entry) (nodes : List Node) (links :
       (λ lt. asks (act.Finish link ok) (links_attempt (slice_get log link)) lt (λ x t. refl))
       ∙ (ap (λ b. b && (nat_lt to (length nodes) && links_attempt (slice_get log link))) (counted n)
       ∙ (ap (λ b. nat_lt n (length configs) && (b && links_attempt (slice_get log link))) (counted to) ∙ linked_is configs log link))
+  may_by (act.Cut link) =
+      let n = (nodes_linked (slice_get log link)).dials in
+      let to = (nodes_linked (slice_get log link)).listens in
+      all_there (nat_lt n (length nodes)) (nat_lt to (length nodes)) (may_at (slice_get nodes n) log (act.Cut link)) (links_attempt (slice_get log link))
+      (λ lt. asks (act.Cut link) (links_attempt (slice_get log link)) lt (λ x t. refl))
+      ∙ (ap (λ b. b && (nat_lt to (length nodes) && links_attempt (slice_get log link))) (counted n)
+      ∙ (ap (λ b. nat_lt n (length configs) && (b && links_attempt (slice_get log link))) (counted to) ∙ linked_is configs log link))
   may_by a = free a (λ x. refl)
 
 pub may_act-nodes : (configs : List Config) (log : List Entry) (nodes : List Node) (links : Links) (a : Act) → WorldStands configs log nodes links → may_act nodes log a ≡ valid.may_act configs (events_of log) a
@@ -316,6 +323,7 @@ ends_there configs log nodes l t (act.Finish link ok) first second how is = subs
     open_there o at =
         let made = opening_made log link o (sym (t.openings link) ∙ at) in
         (subst (λ i. i < length nodes) (ap (λ (e : Ends). e.dials) made) first, subst (λ i. i < length nodes) (ap (λ (e : Ends). e.listens) made) second)
+ends_there configs log nodes l t (act.Cut link) first second how is = subst (λ h. MeetsThere h nodes l) (same_Some (meeting.Cut link) how is) tt
 ends_there configs log nodes l t _ first second how is = cc
 
 -- an act that may be asked for finds its nodes there, and ready

@@ -40,7 +40,7 @@ use Rattle.p2p_net_queues.proofs.Holding.{holds_none}
 use Rattle.p2p_net_connections.specs.Spawner.{no_spawning}
 use Rattle.p2p_net_connections.specs.SpawnerStands.{SpawnerStands}
 use Rattle.p2p_net_connections.proofs.SpawnerChanges.{spawner_new}
-use Rattle.p2p_net_links.proofs.Changes.{dialers_new, openings_new, dropped_new}
+use Rattle.p2p_net_links.proofs.Changes.{dialers_new, openings_new, dropped_new, cut_new}
 use Rattle.p2p_net_links.specs.Links.{no_links, way_of}
 use Rattle.p2p_net_links.specs.Stands.{LinksStand}
 use Rattle.p2p_net_node.specs.Places as place
@@ -97,6 +97,7 @@ links_new configs = record {
   dialers = dialers_new;
   openings = openings_new;
   dropped = dropped_new;
+  cut = cut_new;
 }
 
 -- of no log a router is to know of no connection

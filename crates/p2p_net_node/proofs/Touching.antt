@@ -265,6 +265,11 @@ mailbox_queue log check (queue.Router n) h = by (check_of log check) refl
     by (Some c) is = ap (λ m. same_queue (queue.Router m) (queue.Router n)) (sym (checking_is log check c is)) ∙ h
 mailbox_queue log check _ h = refl
 
+-- a cut reaches what is in flight over its link
+flight_off : (link : ℕ) (q : Queue) → same_place links (home q) ≡ false → (same_queue (queue.Link link side.Out) q || same_queue (queue.Link link side.In) q) ≡ false
+flight_off link (queue.Link k s) h = cc
+flight_off link _ h = refl
+
 writes-named : (configs : List Config) (log : List Entry) (a : Act) (q : Queue) → names log a (home q) ≡ false → writes configs log a q ≡ false
 writes-named configs log (act.Start n) q h = router_queue n q (first_false (same_place (at router n) (home q)) (same_place (at dialer n) (home q) || false) h)
 writes-named configs log (act.Send bytes c n priority to) q h = router_queue n q (second_of_two (same_place (at channels n) (home q)) (same_place (at router n) (home q)) h)
@@ -302,6 +307,7 @@ writes-named configs log (act.Connect e from n to) q h =
 writes-named configs log (act.Refuse e n) q h = attempt_queue n e q (first_false (same_place (at dialer n) (home q)) false h)
 writes-named configs log (act.Finish link ok) q h =
     ends_queue (openings_of log link) q (second_false (same_place links (home q)) (list_any (λ p. same_place p (home q)) (ends_named (openings_of log link))) h)
+writes-named configs log (act.Cut link) q h = flight_off link q (first_false (same_place links (home q)) false h)
 writes-named configs log _ q h = refl
 
 -- the queues in which it ends something

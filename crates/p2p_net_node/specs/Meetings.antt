@@ -1,4 +1,4 @@
--- How an act brings two nodes together, and when these are there.
+-- What an act does to more than one node, or to the links alone, and when these nodes are there.
 use Rattle.std.specs.Prelude.{◌≡◌, ◌<◌, List, length, Option, Some, None}
 use Rattle.p2p_log.specs.declared.event.Act.{Act}
 use Rattle.p2p_log.specs.declared.event.Act.TheVariants as act
@@ -10,10 +10,11 @@ use Rattle.p2p_net_node.specs.declared.meeting.Meeting.{Meeting}
 use Rattle.p2p_net_node.specs.declared.meeting.Meeting.TheVariants as meeting
 use Rattle.p2p_net_node.specs.declared.node.Node.{Node}
 
--- where it does, with the node that dials first
+-- where it does, with the node that dials first; a cut is done to the link between them
 abbrev pub meeting_of : Act → Option Meeting
 meeting_of (act.Connect e from n to) = Some (meeting.Link e from (record { dials = n; listens = to }))
 meeting_of (act.Finish link ok) = Some (meeting.Finish link ok)
+meeting_of (act.Cut link) = Some (meeting.Cut link)
 meeting_of _ = None
 
 -- nodes that are there
@@ -24,3 +25,4 @@ EndsThere ends nodes = (ends.dials < length nodes) × (ends.listens < length nod
 abbrev pub MeetsThere : Meeting → List Node → Links → Type 0
 MeetsThere (meeting.Link e from ends) nodes l = EndsThere ends nodes
 MeetsThere (meeting.Finish link ok) nodes l = (o : Opening) → table.at l.openings link ≡ Some o → (o.node < length nodes) × (o.to < length nodes)
+MeetsThere (meeting.Cut link) nodes l = Unit {0}

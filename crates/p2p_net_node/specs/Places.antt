@@ -99,6 +99,7 @@ names_links (act.Handshake e n) = true
 names_links (act.Attempt e n) = true
 names_links (act.Connect e from n to) = true
 names_links (act.Finish link ok) = true
+names_links (act.Cut link) = true
 names_links _ = false
 
 abbrev pub places_at : Bool → ℕ → List Part → List Place
@@ -163,11 +164,13 @@ node_of log (act.Resolve addresses e n) = n
 node_of log (act.Connect e from n to) = n
 node_of log (act.Refuse e n) = n
 node_of log (act.Finish link ok) = (nodes_linked (slice_get log link)).dials
+node_of log (act.Cut link) = (nodes_linked (slice_get log link)).dials
 
 -- and the other one that it names
 abbrev pub other_of : List Entry → ℕ → Act → ℕ
 other_of log n (act.Connect e from m to) = to
 other_of log n (act.Finish link ok) = (nodes_linked (slice_get log link)).listens
+other_of log n (act.Cut link) = (nodes_linked (slice_get log link)).listens
 other_of log n a = n
 
 -- the parts at both ends of a link
@@ -179,6 +182,7 @@ ends_named (Some o) = at dialer o.node ∷ at tracker o.to ∷ []
 abbrev pub places : List Entry → Act → List Place
 places log (act.Connect e from n to) = links ∷ at dialer n ∷ at listener to ∷ []
 places log (act.Finish link ok) = links ∷ ends_named (openings_of log link)
+places log (act.Cut link) = links ∷ []
 places log a = places_at (names_links a) (node_of log a) (parts_named a)
 
 abbrev pub names : List Entry → Act → Place → Bool

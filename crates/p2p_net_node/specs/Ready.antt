@@ -93,6 +93,7 @@ may_ask log x (act.Resolve addresses e n) = names_dialer n (slice_get log e)
 may_ask log x (act.Connect e from n to) = names_dialer n (slice_get log e)
 may_ask log x (act.Refuse e n) = names_dialer n (slice_get log e)
 may_ask log x (act.Finish link ok) = links_attempt (slice_get log link)
+may_ask log x (act.Cut link) = links_attempt (slice_get log link)
 may_ask log x _ = true
 
 -- the sizes of a node, where it is asked for an act, that its tracker may take what waits for it, and that a handshake holds a place

@@ -26,6 +26,10 @@ pub enum Meeting {
         link: u64,
         ok: bool,
     },
+    /// Not any more: the link of this event is cut.
+    Cut {
+        link: u64,
+    },
 }
 
 /// How an act brings two nodes together, where it does.
@@ -50,6 +54,7 @@ pub fn meeting_of(act: &Act) -> Option<Meeting>
             link: *link,
             ok: *ok,
         }),
+        Act::Cut { link } => Some(Meeting::Cut { link: *link }),
         _ => None,
     }
 }

@@ -21,6 +21,7 @@ cause_onto out cause.FrameRefused = out ++ codes "\"frame_refused\""
 cause_onto out cause.ChannelUnregistered = out ++ codes "\"channel_unregistered\""
 cause_onto out cause.MailboxFull = out ++ codes "\"mailbox_full\""
 cause_onto out cause.ReceiverClosed = out ++ codes "\"receiver_closed\""
+cause_onto out cause.LinkCut = out ++ codes "\"link_cut\""
 
 abbrev pub outcome_onto : List ℕ → Outcome → List ℕ
 outcome_onto out outcome.Delivered = out ++ codes "\"delivered\""

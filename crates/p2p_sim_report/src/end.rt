@@ -19,6 +19,7 @@ fn put_cause(out: &mut String, cause: Cause) -> Result<(), AllocError>
         Cause::ChannelUnregistered => put(out, "\"channel_unregistered\""),
         Cause::MailboxFull => put(out, "\"mailbox_full\""),
         Cause::ReceiverClosed => put(out, "\"receiver_closed\""),
+        Cause::LinkCut => put(out, "\"link_cut\""),
     }
 }
 

@@ -75,6 +75,13 @@ finish_of d = do
   ok ← field "ok" as_bool d
   Some (act.Finish link ok)
 
+-- the event that made the link
+abbrev pub cut_of : Data → Option Act
+cut_of d = do
+  has ("link" ∷ []) d
+  link ← field "link" whole d
+  Some (act.Cut link)
+
 -- the act of a dialer, an attempt, a listener, a handshake, a spawner or a link that this word asks for
 abbrev pub dialer_act_named : List ℕ → Data → Option Act
 dialer_act_named word d =
@@ -84,6 +91,7 @@ dialer_act_named word d =
     else if bytes_eq word (codes "connect") then connect_of d
     else if bytes_eq word (codes "refuse") then refuse_of d
     else if bytes_eq word (codes "finish") then finish_of d
+    else if bytes_eq word (codes "cut") then cut_of d
     else if bytes_eq word (codes "listener") then listener_of d
     else if bytes_eq word (codes "handshake") then handshake_of d
     else if bytes_eq word (codes "spawner") then spawner_of d

@@ -2,7 +2,7 @@
 //! own names.
 ghost use Rattle.std.specs.Prelude.{◌≡◌};
 ghost use Rattle.serde_json.specs.View.{view};
-ghost use Rattle.p2p_sim_script.specs.DialerActForm.{attempt_named_of, attempt_of, connect_of, dialer_act_named, dialer_of, finish_of, handshake_of, listener_of, refuse_of, resolve_of, spawner_of};
+ghost use Rattle.p2p_sim_script.specs.DialerActForm.{attempt_named_of, attempt_of, connect_of, cut_of, dialer_act_named, dialer_of, finish_of, handshake_of, listener_of, refuse_of, resolve_of, spawner_of};
 ghost use Rattle.p2p_sim_script.specs.Gives.{Gives};
 
 use crate::error::ScriptError;
@@ -115,6 +115,16 @@ fn read_finish(alloc: Global, tree: &Value) -> Result<Act, ScriptError>
     Ok(Act::Finish { link, ok })
 }
 
+fn read_cut(tree: &Value) -> Option<Act>
+    ensures { result ≡ cut_of (view tree.now) }
+{
+    if !only(tree, &["at", "seed", "do", "link"]) {
+        return None;
+    }
+    let link = whole(tree, "link")?;
+    Some(Act::Cut { link })
+}
+
 /// The act of a dialer, an attempt, a listener, a handshake, a spawner or a link that `word` asks for.
 pub(crate) fn read_dialer_named(alloc: Global, word: &str, tree: &Value) -> Result<Act, ScriptError>
     ensures { Gives result (dialer_act_named word.now (view tree.now)) }
@@ -126,6 +136,7 @@ pub(crate) fn read_dialer_named(alloc: Global, word: &str, tree: &Value) -> Resu
         "connect" => return read_connect(alloc, tree),
         "refuse" => read_refuse(tree),
         "finish" => return read_finish(alloc, tree),
+        "cut" => read_cut(tree),
         "listener" => read_listener(tree),
         "handshake" => read_handshake(tree),
         "spawner" => read_spawner(tree),

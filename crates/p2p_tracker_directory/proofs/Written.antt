@@ -1,5 +1,5 @@
 -- What is found under a key once another key's record has changed.
-use Rattle.std.proofs.Common.{◌≡◌, Bool, true, false, cond, not, List, [], ◌∷◌, Option, Some, None, refl, sym, ap, ◌∙◌}
+use Rattle.std.proofs.Common.{◌≡◌, Bool, true, false, cond, List, [], ◌∷◌, Option, Some, None, refl, sym, ap, ◌∙◌}
 use Rattle.std.proofs.lemmas.Cmp.{eq_by_cmp_equiv}
 use Rattle.std.proofs.lemmas.Map.{lookup-set_value}
 use Rattle.std.specs.Prelude.{is_some}
@@ -10,7 +10,7 @@ use Rattle.std.specs.Map.{lookup, set_value}
 use Rattle.std.specs.BTreeMap.{is_at}
 use Rattle.std.specs.declared.cmp.Ordering.{Ordering}
 use Rattle.p2p_tracker_directory.specs.Tracked.{needed, is_unneeded_in}
-use Rattle.p2p_tracker_directory.specs.Recorded.{Recorded, is_deletable, released, without_need, written}
+use Rattle.p2p_tracker_directory.specs.Recorded.{Recorded, released, without_need, written}
 
 module _ {P : Type 0} {cmp : P → P → Ordering} (o : IsTotalOrder cmp) where
   -- equal keys find the same

@@ -1,4 +1,4 @@
-//! What a peer set does to the record of one of its peers.
+//! What a peer set counts in a record, and which records go.
 ghost use Rattle.std.specs.Prelude.{◌≡◌, cond};
 ghost use Rattle.std.specs.Map.{lookup};
 ghost use Rattle.std.specs.BTreeMap.{is_at};

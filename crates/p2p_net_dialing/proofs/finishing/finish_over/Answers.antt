@@ -10,9 +10,9 @@ returns-in-None c =
     let o = c.args.opening in
     let x : Node = c.index.result.now in
     let y : Node = c.index-second.result.now in
-    not_told c.args.entry c.args.link c.args.ok o nodes x y c.args.links.now c.dialed_key-dialed.result c.end_of-end.result c.only.result
+    not_told c.args.entry c.args.link c.args.ok o nodes x y c.args.links.now c.is_cut.result c.dialed_key-dialed.result c.end_of-end.result c.only.result
     (found nodes o.node x c.requires.first_in_range c.index.ensures) (found nodes o.to y c.requires.second_in_range c.index-second.ensures)
-    c.dialed_key-dialed.ensures c.end_of-end.ensures (sym c.verdict_at.ensures ∙ c.in-None.is) c.only.ensures
+    c.is_cut.ensures c.dialed_key-dialed.ensures c.end_of-end.ensures (sym c.verdict_at.ensures ∙ c.in-None.is) c.only.ensures
 
 pub returns-in_ok-tell_both-in-Some : goal.returns-in_ok-tell_both-in-Some
 returns-in_ok-tell_both-in-Some c =
@@ -20,7 +20,7 @@ returns-in_ok-tell_both-in-Some c =
     let o = c.args.opening in
     let x : Node = c.index.result.now in
     let y : Node = c.index-second.result.now in
-    was_told c.args.entry c.args.link c.args.ok o nodes x y c.args.links.now c.dialed_key-dialed.result c.end_of-end.result c.in_ok-tell_both-in-Some.field-0
+    was_told c.args.entry c.args.link c.args.ok o nodes x y c.args.links.now c.is_cut.result c.dialed_key-dialed.result c.end_of-end.result c.in_ok-tell_both-in-Some.field-0
     (found nodes o.node x c.requires.first_in_range c.index.ensures) (found nodes o.to y c.requires.second_in_range c.index-second.ensures)
-    c.dialed_key-dialed.ensures c.end_of-end.ensures c.in-Some.agree c.tell_both.new.nodes.items c.finish.new.self (sym c.verdict_at.ensures ∙ c.in-Some.is)
+    c.is_cut.ensures c.dialed_key-dialed.ensures c.end_of-end.ensures c.in-Some.agree c.tell_both.new.nodes.items c.finish.new.self (sym c.verdict_at.ensures ∙ c.in-Some.is)
     c.in_ok-tell_both-in-Some.ensures (c.finish.ensures.openings, c.finish.ensures.rest)

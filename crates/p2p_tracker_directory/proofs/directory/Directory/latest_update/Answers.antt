@@ -1,4 +1,4 @@
-use Rattle.std.proofs.Common.{◌≡◌, ℕ, List, Option, Some, sym, ap, ◌∙◌}
+use Rattle.std.proofs.Common.{ℕ, List, Some, sym, ap, ◌∙◌}
 use Rattle.std.specs.Option.{option_map, option_copied}
 use Rattle.p2p_flow.specs.declared.tracked.TrackedPeers.{TrackedPeers}
 use Rattle.p2p_flow.specs.declared.update.PeerSetUpdate.{PeerSetUpdate}

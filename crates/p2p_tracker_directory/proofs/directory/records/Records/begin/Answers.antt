@@ -1,4 +1,4 @@
-use Rattle.std.proofs.Common.{BTreeMap, ◌≡◌, sym, ap, ◌∙◌, subst}
+use Rattle.std.proofs.Common.{BTreeMap, ◌≡◌, sym, ap, subst}
 use Rattle.std.specs.Map.{lookup}
 use Rattle.std.specs.BTreeMap.{is_at}
 use Rattle.p2p_tracker_directory.specs.Indexed.{Roster, Indexes}
