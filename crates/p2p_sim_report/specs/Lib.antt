@@ -6,5 +6,6 @@ pub mod PeersText
 pub mod QueueText
 pub mod ReplyText
 pub mod ReportText
+pub mod SummaryText
 pub mod Text
 pub mod TrackerItemText

@@ -1,4 +1,5 @@
-//! The report of a run, as text: a line of JSON for each entry of the log, one for each copy, and one with the counts.
+//! The report of a run, as text: a line of JSON for each entry of the log, one for each copy, and one with the counts; and its summary, one line
+//! with how many copies ended how.
 #![tactic(auto)]
 
 mod address;
@@ -9,7 +10,9 @@ mod peers;
 mod queue;
 mod reply;
 pub mod report;
+pub mod summary;
 mod text;
 mod tracker_item;
 
 pub use report::write_report;
+pub use summary::write_summary;

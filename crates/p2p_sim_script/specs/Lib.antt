@@ -3,6 +3,8 @@ pub mod AddressForm
 pub mod ConfigForm
 pub mod DialerActForm
 pub mod Form
+pub mod Generated
+pub mod GeneratedActs
 pub mod Gives
 pub mod Parts
 pub mod Presets

@@ -1,4 +1,5 @@
-//! Reads the JSON tree of a script: the configurations of its nodes, and its events.
+//! Reads the JSON tree of a script: the configurations of its nodes, and its events. And makes a script of a number of events and a
+//! seed.
 #![tactic(auto)]
 
 mod act;
@@ -7,6 +8,7 @@ mod config;
 mod dialer_act;
 mod error;
 mod event;
+pub mod generator;
 mod list;
 mod parts;
 mod preset;
@@ -15,4 +17,5 @@ mod tracker_act;
 mod tree;
 
 pub use error::ScriptError;
+pub use generator::generated_script;
 pub use script::read_script;
