@@ -116,7 +116,7 @@ module _ {P : Type 0} (cmp : P → P → Ordering) (rules : Rules P) (calls : Li
       (no_change (given_by cmp (asked.Track index (placed primary) (placed secondary)) (lookup_calls calls) q) (address_of cmp rules (lookup_calls calls) q) (is_held cmp (lookup_calls calls) q)
       (nowhere_given cmp index primary secondary (lookup_calls calls) q) (address-nowhere cmp rules calls q) none) e
 
-  stale-after : (c : Call P) → (address_of cmp rules (lookup_calls calls) q ≡ None → is_held cmp (lookup_calls calls) q ≡ false)
+  pub stale-after : (c : Call P) → (address_of cmp rules (lookup_calls calls) q ≡ None → is_held cmp (lookup_calls calls) q ≡ false)
       → is_stale cmp rules (lookup_calls calls) q ≡ false → is_stale cmp rules (lookup_calls (c ∷ calls)) q ≡ false
   unfolding is_stale lookup_calls
   stale-after (call.Track index primary secondary) none e = stale-track index primary secondary none e
@@ -129,33 +129,5 @@ module _ {P : Type 0} (cmp : P → P → Ordering) (rules : Rules P) (calls : Li
   stale-after (call.UpdatePeers infos) none e = e
 
 module _ {P : Type 0} {cmp : P → P → Ordering} {kept : Kept P} where
-  unheld_without : (calls : List (LookupCall P)) → StandsFor cmp kept calls → (q : P) → is_local cmp kept.rules q ≡ false → address_of cmp kept.rules calls q ≡ None → is_held cmp calls q ≡ false
+  pub unheld_without : (calls : List (LookupCall P)) → StandsFor cmp kept calls → (q : P) → is_local cmp kept.rules q ≡ false → address_of cmp kept.rules calls q ≡ None → is_held cmp calls q ≡ false
   unheld_without calls s q other none = (or_parts (is_tracked cmp kept.rules calls q) (is_held cmp calls q) (s.addressed q other ∙ ap is_some none)).1
-
-  -- what holds of a plain directory holds after one more call
-  pub plain-after : IsPlain cmp kept → (c : Call P) (after : Kept P) → after.rules ≡ kept.rules
-      → ((calls : List (Call P)) → StandsFor cmp kept (lookup_calls calls) → StandsFor cmp after (lookup_calls (c ∷ calls))) → IsPlain cmp after
-  plain-after i c after e stands = record {
-    calls = c ∷ i.calls;
-    stands = stands i.calls i.stands;
-    unstale = λ q other.
-        let local : is_local cmp kept.rules q ≡ false = ap (λ r. is_local cmp r q) (sym e) ∙ other in
-        ap (λ r. is_stale cmp r (lookup_calls (c ∷ i.calls)) q) e
-        ∙ stale-after cmp kept.rules i.calls q c (unheld_without (lookup_calls i.calls) i.stands q local) (i.unstale q local);
-    untested = ap (λ r. r.bypass) e ∙ i.untested;
-  }
-
-  -- and where there was no memory for it
-  pub plain-same : IsPlain cmp kept → (after : Kept P) → after.rules ≡ kept.rules
-      → ((calls : List (Call P)) → StandsFor cmp kept (lookup_calls calls) → StandsFor cmp after (lookup_calls calls)) → IsPlain cmp after
-  plain-same i after e stands = record {
-    calls = i.calls;
-    stands = stands i.calls i.stands;
-    unstale = λ q other. ap (λ r. is_stale cmp r (lookup_calls i.calls) q) e ∙ i.unstale q (ap (λ r. is_local cmp r q) (sym e) ∙ other);
-    untested = ap (λ r. r.bypass) e ∙ i.untested;
-  }
-
--- a directory that was just made
-pub plain-first : {P : Type 0} {cmp : P → P → Ordering} (kept : Kept P) → StandsFor cmp kept [] → kept.rules.bypass ≡ true → IsPlain cmp kept
-unfolding lookup_calls is_stale
-plain-first kept s e = record { calls = []; stands = s; unstale = λ q other. refl; untested = e }

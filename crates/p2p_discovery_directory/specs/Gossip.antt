@@ -17,16 +17,24 @@ module _ {P : Type 0} (cmp : P → P → Ordering) where
   abbrev pub keys_of_set : PeerSet P → List P
   keys_of_set s = sorted_once cmp (s.primary ++ s.secondary)
 
-module _ {P : Type 0} (cmp : P → P → Ordering) (rules : Rules P) (own : Info P) (calls : List (Call P)) where
+-- by what is kept of each key
+module _ {P : Type 0} (info : P → Option (Info P)) where
   -- a bit for each key of a set: set exactly where an info of it is kept
-  abbrev pub known : List P → List Bool
-  known keys = map (λ q. is_some (info_of cmp rules own calls q)) keys
+  abbrev pub known_by : List P → List Bool
+  known_by keys = map (λ q. is_some (info q)) keys
 
   -- what is kept of the keys whose bit isn't set
+  abbrev pub unknown_by : List Bool → List P → List (Info P)
+  unknown_by [] keys = []
+  unknown_by (b ∷ bits) [] = []
+  unknown_by (b ∷ bits) (q ∷ keys) = cond b [] (option_to_list (info q)) ++ unknown_by bits keys
+
+module _ {P : Type 0} (cmp : P → P → Ordering) (rules : Rules P) (own : Info P) (calls : List (Call P)) where
+  abbrev pub known : List P → List Bool
+  known keys = known_by (λ q. info_of cmp rules own calls q) keys
+
   abbrev pub unknown : List Bool → List P → List (Info P)
-  unknown [] keys = []
-  unknown (b ∷ bits) [] = []
-  unknown (b ∷ bits) (q ∷ keys) = cond b [] (option_to_list (info_of cmp rules own calls q)) ++ unknown bits keys
+  unknown bits keys = unknown_by (λ q. info_of cmp rules own calls q) bits keys
 
 module _ {P : Type 0} (cmp : P → P → Ordering) (rules : Rules P) (own : Info P) (calls : List (Call P)) where
   abbrev pub told_of : List Bool → Option (PeerSet P) → Option (List (Info P))

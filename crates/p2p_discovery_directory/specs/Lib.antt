@@ -5,6 +5,7 @@ pub mod DialList
 pub mod Gossip
 pub mod Infos
 pub mod Laws
+pub mod Listed
 pub mod Plain
 pub mod Reserved
 pub mod Telling

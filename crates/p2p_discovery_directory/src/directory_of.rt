@@ -6,14 +6,16 @@ ghost use Rattle.p2p_discovery_directory.specs.declared.metadata.Metadata.TheVar
 
 use crate::{Metadata, Reservation};
 use p2p_base::{PublicKey, Set};
+use p2p_discovery::{BitVec, Info};
 use p2p_flow::{PeerSetUpdate, TrackedPeers};
+use p2p_tracker_directory::Dialable;
 use std::alloc::AllocError;
 
 /// Which peers are tracked, held and blocked, as the tracker of a discovered network asks it.
 ///
-/// Moments and jitters are in nanoseconds. Nothing but what is said here is promised of a directory: a `listen` of a held peer is
-/// refused, one that is granted makes its peer held and reserved, `connect` ends reserved, `release` ends held and reserved, and no
-/// other call changes either.
+/// Moments and jitters are in nanoseconds. Nothing but what is said here is promised of a directory: a `dial` or a
+/// `listen` of a held peer is refused, one that is granted makes its peer held and reserved, `connect` ends reserved, `release` ends held
+/// and reserved, and no other call changes either.
 pub trait DirectoryOf<P: PublicKey> {
     // Whether a key is held.
     ghost is_held: { Self → P → Bool };
@@ -66,6 +68,22 @@ pub trait DirectoryOf<P: PublicKey> {
     /// to `listen`.
     fn acceptable(&self, peer: &P, now: u64) -> bool;
 
+    /// Asks for a reservation to dial a peer, at the moment `now`. `None` where it is refused, as that of a held peer is. Where the peer is
+    /// dialed the reservation tells.
+    ///
+    /// `Err` only where memory runs out, and then nothing has changed.
+    fn dial(
+        &mut self,
+        peer: &P,
+        now: u64,
+        jitter: u64,
+    ) -> Result<Option<Reservation<P>>, AllocError>
+        ensures refused { IfOk result (λ o. is_held self.old peer.now ≡ true → o ≡ None) }
+        ensures metadata { IfOk result (λ o. IfSome o (λ g. peer_of g ≡ peer.now)) }
+        ensures held { IfOk result (λ o. (q : P) → is_held self.new q ≡ (is_held self.old q || (is_some o && is_at (P.cmp peer.now) q))) }
+        ensures reserved { IfOk result (λ o. (q : P) → is_reserved self.new q ≡ (is_reserved self.old q || (is_some o && is_at (P.cmp peer.now) q))) }
+        ensures memory { OnErr result (self.new ≡ self.old) };
+
     /// Asks for a reservation for a peer that dialed, at the moment `now`. `None` where it is refused, as that of a held peer is.
     ///
     /// `Err` only where memory runs out, and then nothing has changed.
@@ -80,6 +98,9 @@ pub trait DirectoryOf<P: PublicKey> {
         ensures held { IfOk result (λ o. (q : P) → is_held self.new q ≡ (is_held self.old q || (is_some o && is_at (P.cmp peer.now) q))) }
         ensures reserved { IfOk result (λ o. (q : P) → is_reserved self.new q ≡ (is_reserved self.old q || (is_some o && is_at (P.cmp peer.now) q))) }
         ensures memory { OnErr result (self.new ≡ self.old) };
+
+    /// The peers to dial at the moment `now`, in key order, and when to ask again. `Err` only where memory runs out.
+    fn dialable(&self, now: u64) -> Result<Dialable<P>, AllocError>;
 
     /// Begins the connection of a reserved peer; `dialer` tells that this node dialed it.
     fn connect(&mut self, peer: &P, dialer: bool)
@@ -99,6 +120,24 @@ pub trait DirectoryOf<P: PublicKey> {
     /// The newest of the sets that are kept, its index, and the peers of all of them. `None` where none is kept. `Err` only where
     /// memory runs out.
     fn latest_update(&self) -> Result<Option<PeerSetUpdate<P>>, AllocError>;
+
+    /// Where a peer is dialed, as it said itself, as far as the directory keeps that. `None` exactly where it keeps no info of the peer.
+    fn info(&self, peer: &P) -> Option<&Info<P>>;
+
+    /// What a peer is told that knows these of a set: nothing of a set that isn't kept, and `None` where the set has another number of keys.
+    ///
+    /// `Err` only where memory runs out.
+    fn infos(&self, bits: &BitVec) -> Result<Option<Vec<Info<P>>>, AllocError>;
+
+    /// Of which peers of one of the kept sets is known where they are dialed; the seed draws the set. `None` exactly where there is none.
+    ///
+    /// `Err` only where memory runs out.
+    fn random_bit_vec(&self, seed: u64) -> Result<Option<BitVec>, AllocError>;
+
+    /// Tells where peers are dialed, as they said themselves. Which of these infos are kept is the directory's own.
+    fn update_peers(&mut self, infos: Vec<Info<P>>)
+        ensures held { (q : P) → is_held self.new q ≡ is_held self.old q }
+        ensures reserved { (q : P) → is_reserved self.new q ≡ is_reserved self.old q };
 
     // A held key has a record.
     ghost held_has_record: { (directory : Self) (q : P) → is_held directory q ≡ true → has_record directory q ≡ true };

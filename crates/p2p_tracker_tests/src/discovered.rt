@@ -41,7 +41,7 @@ struct Stand {
     way: tracker::Mailbox<Key>,
 }
 
-fn stand(alloc: Global) -> Result<Stand, AllocError> {
+fn new_stand(alloc: Global) -> Result<Stand, AllocError> {
     let reservation = Reservation::new(Metadata::Listener(Key(2)));
     let Ok(actor) = Actor::new(alloc, config(alloc), 24, reservation) else {
         return Err(AllocError);
@@ -73,6 +73,25 @@ impl Stand {
         )
     }
 
+    // Whether it begins: its tracker is asked for a greeting.
+    fn begins(&mut self, alloc: Global) -> Result<bool, AllocError> {
+        let started = matches!(self.send(alloc)?, Stepped::Started);
+        let asked = matches!(
+            self.way.take(),
+            Some(tracker::Message::Connect { conn: 24, .. })
+        );
+        Ok(started && asked)
+    }
+
+    // Whether, once its tracker has answered, it tells its router, takes that one's answer and greets its peer.
+    fn runs(&mut self, alloc: Global) -> Result<bool, AllocError> {
+        let announced = matches!(self.send(alloc)?, Stepped::Announced);
+        let _ = self.router.step(&mut self.messenger)?;
+        let running = matches!(self.send(alloc)?, Stepped::Running { .. });
+        let own = Payload::Greeting(signed(alloc, 1, 0)?).encode(alloc)?;
+        Ok(announced && running && self.link.depart() == Some(own))
+    }
+
     // A step of the receiving half, once the greeting of key 2 has come.
     fn is_greeted(&mut self, alloc: Global) -> Result<Stepped<Key>, AllocError> {
         let frame = Payload::Greeting(signed(alloc, 2, 0)?).encode(alloc)?;
@@ -96,22 +115,15 @@ impl Stand {
 }
 
 #[test]
-fn a_discovered_connection_greets_and_is_greeted(rt: HostRuntime) -> Result<(), Fail> {
+fn a_discovered_connection_greets_and_is_greeted(rt: HostRuntime) {
     let alloc = rt.alloc();
-    let mut stand = stand(alloc)?;
-    assert!(rt; matches!(stand.send(alloc)?, Stepped::Started));
-    assert!(rt; matches!(stand.way.take(), Some(tracker::Message::Connect { conn: 24, .. })));
-    stand
-        .way
-        .answer(24, Answer::Greeting(signed(alloc, 1, 0)?))?;
-    assert!(rt; matches!(stand.send(alloc)?, Stepped::Announced));
-    let _ = stand.router.step(&mut stand.messenger)?;
-    assert!(rt; matches!(stand.send(alloc)?, Stepped::Running { .. }));
-    let own = Payload::Greeting(signed(alloc, 1, 0)?);
-    assert!(rt; stand.link.depart() == Some(own.encode(alloc)?));
-    assert!(rt; matches!(stand.is_greeted(alloc)?, Stepped::Greeted));
+    let mut stand = new_stand(alloc).expect(&rt, "memory");
+    assert!(rt; stand.begins(alloc) == Ok(true));
+    let greeting = signed(alloc, 1, 0).expect(&rt, "memory");
+    assert!(rt; stand.way.answer(24, Answer::Greeting(greeting)).is_ok());
+    assert!(rt; stand.runs(alloc) == Ok(true));
+    assert!(rt; matches!(stand.is_greeted(alloc), Ok(Stepped::Greeted)));
     assert!(rt; matches!(stand.way.take(), Some(tracker::Message::Peers { .. })));
-    Ok(())
 }
 
 // The place of the first end that prints as another text. `None` where each prints as it should.

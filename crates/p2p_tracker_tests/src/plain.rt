@@ -1,21 +1,24 @@
 //! Plain directories of discovery, by each of their calls.
-use p2p_base::{Key, Set};
+use crate::infos::signed;
+use p2p_base::{Key, List, Set};
+use p2p_discovery::BitVec;
 use p2p_discovery_directory::{DirectoryOf, Metadata, PlainDirectory};
 use p2p_flow::TrackedPeers;
 use p2p_tracker_directory::Config;
 use std::alloc::{AllocError, Global};
+use std::test::Fail;
 
 // A directory of the key 0 that keeps two sets, and whose blocks last for five nanoseconds.
 fn directory(alloc: Global) -> Result<PlainDirectory<Key>, AllocError> {
     let cfg = Config {
-        allow_private_ips: false,
+        allow_private_ips: true,
         allow_dns: false,
         bypass_ip_check: false,
         max_sets: 2,
         peer_connection_cooldown: 100,
         block_duration: 5,
     };
-    PlainDirectory::new(alloc, Key(0), cfg)
+    PlainDirectory::new(alloc, signed(alloc, 0, 0)?, cfg)
 }
 
 // A set of this key alone.
@@ -82,29 +85,35 @@ fn a_plain_directory_grants_a_peer_to_one_at_a_time(rt: HostRuntime) {
     );
 }
 
+// Whether who knows nobody of the set 1 is told of one peer, and whether that one is known.
+fn gossips(alloc: Global, directory: &PlainDirectory<Key>) -> Result<[bool; 2], AllocError> {
+    let bits = List::from_slice(alloc, &[false])?;
+    let Some(told) = directory.infos(&BitVec { index: 1, bits })? else {
+        return Ok([false; 2]);
+    };
+    let Some(known) = directory.random_bit_vec(0)? else {
+        return Ok([false; 2]);
+    };
+    Ok([told.len() == 1, known.bits.as_slice() == [true].as_slice()])
+}
+
 #[test]
-fn a_plain_directory_kills_a_held_peer_that_is_in_no_set(rt: HostRuntime) {
+fn a_plain_directory_dials_a_peer_that_said_where(rt: HostRuntime) -> Result<(), Fail> {
     let alloc = rt.alloc();
-    let mut directory = directory(alloc).expect(&rt, "memory");
-    for (index, key) in [(1, 7), (2, 8)] {
-        let peers = alone(alloc, key).expect(&rt, "memory");
-        assert!(rt;
-            directory
-                .track(index, peers)
-                .expect(&rt, "memory")
-                .is_some()
-        );
-    }
-    assert!(rt;
-        directory
-            .listen(&Key(7), 0, 0)
-            .expect(&rt, "memory")
-            .is_some()
-    );
-    let peers = alone(alloc, 9).expect(&rt, "memory");
-    let killed = directory.track(3, peers).expect(&rt, "memory");
-    let killed = killed.expect(&rt, "a later set");
-    assert_eq!(rt; killed.as_slice(), [Key(7)].as_slice());
+    let mut directory = directory(alloc)?;
+    assert!(rt; directory.track(1, alone(alloc, 7)?)?.is_some());
+    assert!(rt; directory.dial(&Key(7), 0, 0)?.is_none());
+    let mut infos = Vec::new(alloc);
+    infos.push(signed(alloc, 7, 3)?)?;
+    directory.update_peers(infos);
+    assert!(rt; directory.info(&Key(7)).is_some() && directory.info(&Key(0)).is_some());
+    assert!(rt; gossips(alloc, &directory)? == [true; 2]);
+    let listed = directory.dialable(0)?;
+    assert_eq!(rt; listed.peers.as_slice(), [Key(7)].as_slice());
+    assert!(rt; directory.dial(&Key(7), 0, 0)?.is_some());
+    let listed = directory.dialable(0)?;
+    assert!(rt; listed.peers.as_slice().is_empty());
+    Ok(())
 }
 
 #[test]

@@ -5,5 +5,5 @@ use Rattle.p2p_discovery_directory.proofs.plain.PlainDirectory.may_release.Goals
 
 pub returns : goal.returns
 returns g c =
-    subst (λ k. c.may_release.result ≡ (holds g.P.Ord.cmp k c.args.peer.now || not (knows g.P.Ord.cmp k c.args.peer.now))) c.self.view_is
+    subst (λ k. c.may_release.result ≡ (holds g.P.Ord.cmp k.peers c.args.peer.now || not (knows g.P.Ord.cmp k.peers c.args.peer.now))) c.self.view_is
     (c.may_release.ensures ∙ may-release-known g.P.Ord.cmp c.self.inside.peers c.args.peer.now)

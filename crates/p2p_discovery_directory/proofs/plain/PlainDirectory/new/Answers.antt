@@ -1,10 +1,13 @@
-use Rattle.std.proofs.Common.{ap}
-use Rattle.p2p_discovery_directory.proofs.Settled.{as-none}
-use Rattle.p2p_discovery_directory.proofs.Unstale.{plain-first}
+use Rattle.std.proofs.Common.{ap, subst, sym}
+use Rattle.p2p_discovery_directory.specs.Plain.{Represents, IsPlain}
+use Rattle.p2p_discovery_directory.proofs.Representing.{plain_of, represents-first, plain-first}
 use Rattle.p2p_discovery_directory.proofs.plain.PlainDirectory.new.Goals as goal
 
 pub returns-clause-stands : goal.returns-clause-stands
-returns-clause-stands g c = as-none c.in_ok-peers.ensures.stands
+returns-clause-stands g c =
+    subst (λ l. Represents g.P.Ord.cmp (plain_of c.in_ok-peers.peers c.args.own l) _) (sym c.new.ensures.empty) (represents-first c.in_ok-peers.peers c.args.own c.in_ok-peers.ensures.stands)
 
 pub invariant_of-result : goal.invariant_of-result
-invariant_of-result g c = plain-first c.in_ok-peers.peers c.in_ok-peers.ensures.stands (ap (λ r. r.bypass) c.in_ok-peers.ensures.rules)
+invariant_of-result g c =
+    subst (λ l. IsPlain g.P.Ord.cmp (plain_of c.in_ok-peers.peers c.args.own l)) (sym c.new.ensures.empty)
+    (plain-first c.in_ok-peers.peers c.args.own c.in_ok-peers.ensures.stands (ap (λ r. r.bypass) c.in_ok-peers.ensures.rules))

@@ -1,12 +1,12 @@
 use Rattle.std.proofs.Common.{◌≡◌, sym, subst}
 use Rattle.std.proofs.lemmas.Result.{IfOk-weaker}
-use Rattle.p2p_tracker_directory.specs.Stands.{StandsFor}
-use Rattle.p2p_discovery_directory.specs.AsLookup.{lookup_calls}
 use Rattle.p2p_tracker_calls.specs.Peers.{latest_update}
+use Rattle.p2p_discovery_directory.specs.AsLookup.{lookup_calls}
+use Rattle.p2p_discovery_directory.specs.Plain.{Represents}
 use Rattle.p2p_discovery_directory.proofs.plain.answers.PlainDirectoryDirectoryOf.latest_update.Goals as goal
 
 pub returns : goal.returns
 returns g c =
     IfOk-weaker c.latest_update.result _ _
-    (λ r h. λ calls one s. subst (λ k. r ≡ latest_update g.P.Ord.cmp k.rules (lookup_calls calls)) c.self.view_is
-    (h (lookup_calls calls) one (subst (λ k. StandsFor g.P.Ord.cmp k (lookup_calls calls)) (sym c.self.view_is) s))) c.latest_update.ensures.exactly
+    (λ r h. λ calls one s. subst (λ k. r ≡ latest_update g.P.Ord.cmp k.peers.rules (lookup_calls calls)) c.self.view_is
+    (h (lookup_calls calls) one (subst (λ k. Represents g.P.Ord.cmp k calls) (sym c.self.view_is) s).peers)) c.latest_update.ensures.exactly
