@@ -15,6 +15,18 @@ WRONG = [
     (['run', 'extra'], './p2p run < SCRIPT'),
     (['build', 'low'], './p2p build'),
     (['help', 'me'], './p2p help'),
+    (['gen'], './p2p gen N SEED'),
+    (['gen', '1'], './p2p gen N SEED'),
+    (['gen', '1', '7', '1'], './p2p gen N SEED'),
+    (['gen', '0', '7'], 'N is 0; right is a whole number from 1 to 100,000'),
+    (['gen', '100001', '7'], 'N is 100001; right is a whole number from 1 to 100,000'),
+    (['gen', '01', '7'], 'N is 01; right is a whole number from 1 to 100,000'),
+    (['gen', '1', '18446744073709551616'], 'SEED is 18446744073709551616; right is a whole number from 0 to'),
+    (['gen', '1', '100000000000000000000'], 'SEED is 100000000000000000000; right is a whole number from 0 to'),
+    (['gen', '1', '00'], 'SEED is 00; right is a whole number from 0 to'),
+    (['gen', '1', '-1'], 'SEED is -1; right is a whole number from 0 to'),
+    (['gen', '1', ''], 'right is a whole number from 0 to'),
+    (['gen', '1', '7\n'], 'right is a whole number from 0 to'),
     (['threads'], './p2p threads N M'),
     (['threads', '1'], './p2p threads N M'),
     (['threads', '1', '1', '1'], './p2p threads N M'),
@@ -87,12 +99,13 @@ class Wrapper(unittest.TestCase):
         self.assertEqual(self.tree.run('-h'), (0, usage, ''))
         self.assertEqual(self.tree.run(), (2, '', usage))
         self.assertEqual(re.findall(r'^\d+', usage, re.MULTILINE), [str(number) for number in range(11)])
-        for command in ('run < SCRIPT', 'threads N M', 'build', 'help', '--unproved run < SCRIPT'):
+        for command in ('run < SCRIPT', 'gen N SEED', 'threads N M', 'build', 'help', '--unproved run < SCRIPT'):
             self.assertIn('./p2p %s ' % command, usage)
 
     def test_what_is_not_built_runs_as_it_is(self):
         self.tree.set_trial('a report\n', ENDED % (0, 0), 0)
-        for words, called in ((['run'], 'run'), (['--unproved', 'run'], 'run'), (['threads', '2', '3'], 'threads 2 3')):
+        for words, called in ((['run'], 'run'), (['--unproved', 'run'], 'run'), (['gen', '9', '0'], 'gen 9 0'),
+                              (['threads', '2', '3'], 'threads 2 3')):
             self.tree.forget()
             status, written, said = self.tree.run(*words, given=b'script')
             self.assertEqual((status, written), (0, 'a report\n'))
@@ -102,9 +115,11 @@ class Wrapper(unittest.TestCase):
     def test_what_is_built_runs_without_rt(self):
         self.build()
         self.assertEqual(self.tree.run('run', given=b'script'), (0, 'ran script\n', ''))
-        for words in (['threads', '1', '1'], ['threads', '64', '1024'], ['threads', '6', '10000']):
-            self.assertEqual(self.tree.run(*words), (0, '', ''))
-        self.assertEqual(self.tree.noted('program.calls'), ['run', 'threads 1 1', 'threads 64 1024', 'threads 6 10000'])
+        calls = ['gen 1 0', 'gen 100000 18446744073709551615', 'gen 7 9999999999999999999',
+                 'threads 1 1', 'threads 64 1024', 'threads 6 10000']
+        for call in calls:
+            self.assertEqual(self.tree.run(*call.split()), (0, '', ''))
+        self.assertEqual(self.tree.noted('program.calls'), ['run'] + calls)
         self.assertEqual(self.tree.noted('rt.calls'), [])
 
     def test_unproved_takes_the_sources_where_the_program_is_built_too(self):

@@ -5,6 +5,8 @@ pub mod Input
 pub mod Judged
 pub mod Network
 pub mod Outcomes
+pub mod ScriptWords
+pub mod Summed
 pub mod Taken
 pub mod ThreadText
 pub mod ThreadWords

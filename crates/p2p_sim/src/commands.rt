@@ -8,7 +8,9 @@ ghost use Rattle.p2p_sim.specs.Judged.{judged, status_due};
 ghost use Rattle.p2p_sim.specs.Outcomes.{IsRefusal, IsSilent, HasRefused, HasStopped};
 ghost use Rattle.p2p_net.specs.World.{WorldView};
 ghost use Rattle.p2p_sim.specs.Network.{refusal_of, RunsTree};
-ghost use Rattle.p2p_sim.specs.Commands.{AsksOther, HasFront};
+ghost use Rattle.p2p_sim.specs.Commands.{AsksNoScript, AsksNoThreads, HasFront};
+ghost use Rattle.p2p_sim.specs.ScriptWords.{AsksScript};
+ghost use Rattle.p2p_sim.specs.Summed.{HasSummed, HasSummedInPart};
 ghost use Rattle.p2p_sim.specs.ThreadText.{thread_text};
 ghost use Rattle.p2p_sim.specs.ThreadWords.{AsksThreads};
 ghost use Rattle.p2p_sim.specs.Words.{IsRunCommand};
@@ -41,7 +43,7 @@ pub fn p2p_sim<R: Threads + Wait + Sync, S: Source, K: Sink, G: Gate>(
     end: &mut Option<World>,
     gate: &G,
 ) -> Status
-    ensures usage { (result ≡ status.Usage) ↔ ((¬ IsRunCommand words.now) × AsksOther words.now) }
+    ensures usage { (result ≡ status.Usage) ↔ ((¬ IsRunCommand words.now) × (AsksNoScript words.now × AsksNoThreads words.now)) }
     ensures untouched { result ≡ status.Usage → source.new ≡ source.old }
 
     // The senders: the text is that of the numbers, and neither the source nor the world is touched.
@@ -52,16 +54,24 @@ pub fn p2p_sim<R: Threads + Wait + Sync, S: Source, K: Sink, G: Gate>(
         → HasFront n m (K.bytes_held sink.old) (K.bytes_held sink.new) }
     ensures threads_apart { (n m : ℕ) → AsksThreads words.now n m → (source.new ≡ source.old) × (end.new ≡ end.old) }
 
+    // A generated script: what is written is the summary of the world that is left, which ran it, and nothing is read.
+    ensures generated { (count seed : ℕ) → AsksScript words.now count seed → (result ≡ status.Ok) ⊎ ((result ≡ status.WriteFault) ⊎ (result ≡ status.Memory)) }
+    ensures gen_summary { (count seed : ℕ) → AsksScript words.now count seed → result ≡ status.Ok
+        → HasSummed count seed (K.bytes_held sink.old) (K.bytes_held sink.new) end.new }
+    ensures gen_front { (count seed : ℕ) → AsksScript words.now count seed → result ≡ status.WriteFault
+        → HasSummedInPart count seed (K.bytes_held sink.old) (K.bytes_held sink.new) }
+    ensures gen_apart { (count seed : ℕ) → AsksScript words.now count seed → source.new ≡ source.old }
+
     // Reading.
     ensures read_fault { result ≡ status.ReadFault → Rose (S.faults_of source.old) (S.faults_of source.new) }
     ensures no_read_fault { ¬ (result ≡ status.ReadFault) → S.faults_of source.new ≡ S.faults_of source.old }
-    ensures taken { AsksOther words.now → (taken : List ℕ) × Takes (S.bytes_left source.old) taken (S.bytes_left source.new)
+    ensures taken { IsRunCommand words.now → (taken : List ℕ) × Takes (S.bytes_left source.old) taken (S.bytes_left source.new)
         × (length taken ≤ LIMIT + 1) × ((result ≡ status.TooLong) ↔ (length taken ≡ LIMIT + 1)) }
-    ensures source_end { AsksOther words.now → ¬ IsSilent result → IfSome (S.bytes_left source.new) (λ rest. rest ≡ []) }
+    ensures source_end { IsRunCommand words.now → ¬ IsSilent result → IfSome (S.bytes_left source.new) (λ rest. rest ≡ []) }
 
     // What is written is the report of the world that is left, and the world ran the tree of the input, which is all that the
     // source had left, where it tells.
-    ensures report { AsksOther words.now → result ≡ status.Ok → (input : List ℕ) × IsAllOf (S.bytes_left source.old) input
+    ensures report { IsRunCommand words.now → result ≡ status.Ok → (input : List ℕ) × IsAllOf (S.bytes_left source.old) input
         × (tree : Data) × (world : WorldView) × (report : List ℕ) × (json_of input ≡ Some tree) × (refusal_of tree ≡ None)
         × RunsTree tree world report × (end.new ≡ Some world)
         × (K.bytes_held sink.new ≡ option_map (λ held. held ++ report) (K.bytes_held sink.old)) }
@@ -80,7 +90,7 @@ pub fn p2p_sim<R: Threads + Wait + Sync, S: Source, K: Sink, G: Gate>(
     // Writing, and what stays as it was.
     ensures write_fault { result ≡ status.WriteFault → Rose (K.faults_of sink.old) (K.faults_of sink.new) }
     ensures no_write_fault { ¬ (result ≡ status.WriteFault) → K.faults_of sink.new ≡ K.faults_of sink.old }
-    ensures front { AsksOther words.now → result ≡ status.WriteFault → (input : List ℕ) × IsAllOf (S.bytes_left source.old) input
+    ensures front { IsRunCommand words.now → result ≡ status.WriteFault → (input : List ℕ) × IsAllOf (S.bytes_left source.old) input
         × HasStopped refusal_of RunsTree input (K.bytes_held sink.old) (K.bytes_held sink.new) }
     ensures unwritten { IsSilent result → sink.new ≡ sink.old }
     ensures end_kept { ¬ (result ≡ status.Ok) → end.new ≡ end.old }

@@ -1,10 +1,12 @@
-//! The commands of the program: `run` reads a script to its end, runs it on a network and writes the report; `threads` runs sender
-//! threads over a shared mailbox, and writes a line for each.
+//! The commands of the program: `run` reads a script to its end, runs it on a network and writes the report; `gen` makes a script
+//! of a number and a seed, runs it and writes how many of its copies ended how; `threads` runs sender threads over a shared mailbox,
+//! and writes a line for each.
 #![tactic(auto)]
 
 mod answering;
 mod commands;
 pub mod fault;
+mod generator;
 mod judging;
 mod network;
 pub mod program;

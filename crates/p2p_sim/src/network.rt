@@ -50,8 +50,10 @@ fn read(alloc: Global, tree: Value) -> Result<(List<Config>, List<Event>), RunEr
     }
 }
 
-// Runs a script that was read.
-fn run_script(alloc: Global, configs: &[Config], script: &[Event]) -> Result<World, RunError>
+/// Runs a script.
+///
+/// `Refused` has the first configuration that isn't valid, or else the first event, and `Memory` comes of want of memory.
+pub fn run_script(alloc: Global, configs: &[Config], script: &[Event]) -> Result<World, RunError>
     ensures ran { IfOk result (λ w. HasRunScript configs.now script.now w) }
     ensures accounted { IfOk result (λ w. IsAccounted configs.now w.log) }
     ensures valid { OnOk result (fault_of configs.now script.now ≡ None) }

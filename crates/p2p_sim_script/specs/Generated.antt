@@ -1,4 +1,4 @@
--- A generated script: four nodes, of which the first gets a connection with each of the others, and then acts that are drawn.
+-- The script of `gen`: four nodes, of which the first gets a connection with each of the others, and then acts that are drawn.
 use Rattle.std.specs.Prelude.{ℕ, zero, suc, ◌+◌, ◌-◌, ◌*◌, List, [], ◌∷◌, ◌++◌, take}
 use Rattle.rand_pcg.specs.Lcg.{Lcg}
 use Rattle.p2p_runtime.specs.Draws.{seeded, drawn}

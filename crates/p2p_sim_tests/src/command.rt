@@ -20,7 +20,20 @@ fn ended<S: Source, K: Sink>(
     Ok((status, end.is_some()))
 }
 
-const OTHER_WORDS: [&[&str]; 5] = [&[], &["Run"], &["run", ""], &["--help"], &["gen", "1", "7"]];
+const OTHER_WORDS: [&[&str]; 12] = [
+    &[],
+    &["Run"],
+    &["run", ""],
+    &["--help"],
+    &["gen"],
+    &["gen", "1"],
+    &["gen", "1", "7", ""],
+    &["gen", "0", "7"],
+    &["gen", "100001", "7"],
+    &["gen", "01", "7"],
+    &["gen", "1", "+7"],
+    &["gen", "1", "18446744073709551616"],
+];
 
 #[test]
 fn other_words_are_refused(rt: HostRuntime) {
@@ -83,4 +96,21 @@ fn a_writer_that_takes_no_more_is_a_fault_behind_what_it_took(rt: HostRuntime) {
     let ended = ended(rt.alloc(), &["run"], &mut source, &mut sink);
     assert_eq!(rt; ended, Ok((Status::WriteFault, false)));
     assert_eq!(rt; held, *b"{\"c");
+}
+
+// What `gen` writes with these words.
+fn generated(alloc: Global, words: &[&str]) -> Result<(Status, bool, MemorySink), AllocError> {
+    let mut source = MemorySource::new(Vec::new(alloc));
+    let mut sink = MemorySink::new(alloc);
+    let (status, has_world) = ended(alloc, words, &mut source, &mut sink)?;
+    Ok((status, has_world, sink))
+}
+
+const ONE: &[u8] = b"{\"copies\":0,\"delivered\":0,\"dropped\":0,\"entries\":1,\"waiting\":0}\n";
+
+#[test]
+fn a_script_of_one_event_is_made_and_summed_up(rt: HostRuntime) {
+    let (status, has_world, sink) = generated(rt.alloc(), &["gen", "1", "7"]).expect(&rt, "memory");
+    assert_eq!(rt; (status, has_world), (Status::Ok, true));
+    assert_eq!(rt; sink.as_slice(), ONE);
 }

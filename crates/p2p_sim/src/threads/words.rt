@@ -1,35 +1,20 @@
 //! The words of the command.
-ghost use Rattle.std.specs.Prelude.{◌≡◌, ◌<◌, ◌^◌, ℕ, decimal, ◌↔◌, IfSome, IfNone, IsTrue};
+ghost use Rattle.std.specs.Prelude.{ℕ, ◌↔◌, IfSome, IfNone, IsTrue};
 ghost use Rattle.p2p_sim.specs.ThreadWords.{AsksThreads, AreWithin};
 
-use itoa::Buffer;
+use crate::words::number_of;
 
 // The most sender threads.
-const SENDERS: u32 = 64;
+const SENDERS: u64 = 64;
 
 // The most messages of one sender.
-const NUMBERS: u32 = 10_000;
+const NUMBERS: u64 = 10_000;
 
 // The most messages of all senders.
-const MESSAGES: u32 = 65_536;
-
-// The number that a word spells in decimal digits, without a sign or a leading zero.
-fn number_of(word: &str) -> Option<u32>
-    ensures some { IfSome result (λ n. word.now ≡ decimal n) }
-    ensures none { IfNone result ((n : ℕ) → n < 2 ^ 32 → ¬ (word.now ≡ decimal n)) }
-{
-    let Ok(number) = word.parse::<u32>() else {
-        return None;
-    };
-    let mut buffer = Buffer::new();
-    if buffer.format(number) != word {
-        return None;
-    }
-    Some(number)
-}
+const MESSAGES: u64 = 65_536;
 
 // Whether so many senders may send so many messages each.
-fn is_within(n: u32, m: u32) -> bool
+fn is_within(n: u64, m: u64) -> bool
     ensures { IsTrue result ↔ AreWithin n m }
 {
     n >= 1 && n <= SENDERS && m >= 1 && m <= NUMBERS && n * m <= MESSAGES
@@ -55,5 +40,5 @@ pub fn asked(words: &[String]) -> Option<(u32, u32)>
     if !is_within(n, m) {
         return None;
     }
-    Some((n, m))
+    Some((n as u32, m as u32))
 }

@@ -1,4 +1,4 @@
-//! A script that is made of a number of events and a seed. It knows no actor and runs nothing.
+//! The script of the command `gen`, which is made of a number of events and a seed. It knows no actor and runs nothing.
 mod beginning;
 mod drawn;
 mod generated;

@@ -38,17 +38,6 @@ fn two_senders_meet_and_have_a_line_each(rt: HostRuntime) {
     assert_eq!(rt; gate.counts(), (6, 6, 6));
 }
 
-// A line has 37 bytes around the numbers, which have 3,889 digits and commas.
-#[test]
-fn four_senders_have_a_thousand_each(rt: HostRuntime) {
-    let gate = Meeting::new();
-    let ran = ran(&rt, rt.alloc(), &["threads", "4", "1000"], &gate);
-    let (status, sink) = ran.expect(&rt, "memory");
-    assert_eq!(rt; status, Status::Ok);
-    assert_eq!(rt; sink.as_slice().len(), 4 * (37 + 3_889));
-    assert!(rt; sink.as_slice().ends_with(b",998,999]}\n"));
-}
-
 const OTHERS: [&[&str]; 12] = [
     &["threads"],
     &["threads", "2"],

@@ -1,0 +1,41 @@
+//! What the command writes.
+ghost use Rattle.std.specs.Prelude.{◌≡◌, ◌≤◌, ◌⊎◌};
+ghost use Rattle.p2p_runtime.specs.Streams.{Rose};
+ghost use Rattle.p2p_sim.specs.Summed.{HasSummed, HasSummedInPart};
+ghost use Rattle.p2p_sim.specs.declared.status.Status.TheVariants as status;
+
+use crate::generator::running::run;
+use crate::status::Status;
+use p2p_net::World;
+use p2p_runtime::{Sink, write_all};
+use std::alloc::Global;
+
+/// Runs the first `count` events of the script of this seed, writes the summary and leaves the world in `end`.
+///
+/// The status is `Ok`, `WriteFault` or `Memory`. The text is whole before the first write, so want of memory has written
+/// nothing. `end` is as it was but after `Ok`.
+pub fn summarize<K: Sink>(
+    alloc: Global,
+    count: u64,
+    seed: u64,
+    sink: &mut K,
+    end: &mut Option<World>,
+) -> Status
+    requires { count ≤ 100000 }
+    ensures status { (result ≡ status.Ok) ⊎ ((result ≡ status.WriteFault) ⊎ (result ≡ status.Memory)) }
+    ensures ok { result ≡ status.Ok → HasSummed count seed (K.bytes_held sink.old) (K.bytes_held sink.new) end.new }
+    ensures front { result ≡ status.WriteFault → HasSummedInPart count seed (K.bytes_held sink.old) (K.bytes_held sink.new) }
+    ensures write_fault { result ≡ status.WriteFault → Rose (K.faults_of sink.old) (K.faults_of sink.new) }
+    ensures no_fault { ¬ (result ≡ status.WriteFault) → K.faults_of sink.new ≡ K.faults_of sink.old }
+    ensures unwritten { result ≡ status.Memory → sink.new ≡ sink.old }
+    ensures end_kept { ¬ (result ≡ status.Ok) → end.new ≡ end.old }
+{
+    let Ok((world, text)) = run(alloc, count, seed) else {
+        return Status::Memory;
+    };
+    if write_all(sink, text.as_bytes()).is_err() {
+        return Status::WriteFault;
+    }
+    *end = Some(world);
+    Status::Ok
+}
