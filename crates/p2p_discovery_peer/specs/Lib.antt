@@ -6,3 +6,4 @@ pub mod Ready
 pub mod Receiving
 pub mod Sending
 pub mod Sparing
+pub mod Spawning
