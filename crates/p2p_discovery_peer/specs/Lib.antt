@@ -2,6 +2,7 @@ pub mod Beginning
 pub mod Connection
 pub mod Judging
 pub mod Lends
+pub mod Presets
 pub mod Ready
 pub mod Receiving
 pub mod Sending
