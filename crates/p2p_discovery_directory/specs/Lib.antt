@@ -1,4 +1,5 @@
 pub mod Allows
+pub mod Answering
 pub mod AsLookup
 pub mod Asking
 pub mod DialList
@@ -7,6 +8,7 @@ pub mod Infos
 pub mod Laws
 pub mod Listed
 pub mod Plain
+pub mod PlainAnswering
 pub mod Reserved
 pub mod Telling
 pub mod TestLaws

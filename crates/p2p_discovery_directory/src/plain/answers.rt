@@ -108,6 +108,7 @@ impl<P: PublicKey> PlainDirectory<P> {
 }
 
 impl<P: PublicKey> DirectoryOf<P> for PlainDirectory<P> {
+    ghost use Rattle.p2p_discovery_directory.specs.PlainAnswering.{answering_of};
     ghost use Rattle.p2p_discovery_directory.specs.TestLaws.{held_is_known, reserved_is_held_too};
 
     ghost is_held = { λ d. holds P.cmp d.peers };
@@ -119,6 +120,8 @@ impl<P: PublicKey> DirectoryOf<P> for PlainDirectory<P> {
     ghost is_eligible = { λ d. admits P.cmp d.peers };
 
     ghost has_due = { λ d. is_due_in P.cmp d.peers };
+
+    ghost answering = { answering_of P.cmp };
 
     /// Takes in the peer set of an index. It is kept, and of those that were kept the oldest one is no longer where there were as many
     /// as are kept. A peer with both roles is primary. Gives the peers to kill: the held ones of the oldest set that are in no set then.
@@ -164,6 +167,7 @@ impl<P: PublicKey> DirectoryOf<P> for PlainDirectory<P> {
     fn unblock_expired(&mut self, now: u64) -> bool
         ensures due { result ≡ true → (q : P) × (is_due_in P.cmp self.old.peers q now ≡ true) }
         ensures none_due { result ≡ false → (q : P) → is_due_in P.cmp self.old.peers q now ≡ false }
+        ensures kept { result ≡ false → self.new ≡ self.old }
         ensures terms { SameTerms self.old self.new }
         ensures stands { (calls : List (Call P)) → Represents P.cmp self.old calls → Represents P.cmp self.new (call.UnblockExpired now ∷ calls) }
         ensures held { (q : P) → holds P.cmp self.new.peers q ≡ holds P.cmp self.old.peers q }

@@ -1,4 +1,4 @@
-use Rattle.std.proofs.Common.{◌≡◌, true, false, ◌∷◌, refl, sym, subst}
+use Rattle.std.proofs.Common.{◌≡◌, true, false, ◌∷◌, refl, sym, ap, ◌∙◌, subst}
 use Rattle.p2p_discovery_directory.specs.declared.call.Call.TheVariants as call
 use Rattle.p2p_discovery_directory.specs.AsLookup.{lookup_calls}
 use Rattle.p2p_discovery_directory.specs.Plain.{Represents, SameTerms}
@@ -36,3 +36,6 @@ returns-clause-reserved g c = λ q.
 
 pub invariant_of-self : goal.invariant_of-self
 invariant_of-self g c = plain-unblock c.self.invariant c.unblock_expired.ensures.rules c.args.now c.unblock_expired.ensures.stands
+
+pub returns-clause-kept : goal.returns-clause-kept
+returns-clause-kept g c = λ r. ap (λ k. plain_of k c.self.inside.own c.self.inside.places.entries) (c.unblock_expired.ensures.kept r) ∙ c.self.view_is
