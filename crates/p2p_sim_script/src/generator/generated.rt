@@ -23,7 +23,8 @@ fn config(node: u64) -> Config
 /// connection with node 0. From event 96 on each event sends the number of the event to all, takes a step of a router, of a
 /// tracker or of a half of a connection, or reads, as the seed has it. Event `n` is at `n` milliseconds.
 ///
-/// `Err` only where memory runs out. It takes time and memory in proportion to `count`.
+/// `count` is at most 100,000, which is for the caller to know: no call tells, comparing the number does. `Err` only where memory runs
+/// out. It takes time and memory in proportion to `count`.
 pub fn generated_script(
     alloc: Global,
     count: u64,
