@@ -5,6 +5,8 @@ pub mod DialerActForm
 pub mod Form
 pub mod Generated
 pub mod GeneratedActs
+pub mod GeneratedText
+pub mod GeneratedTree
 pub mod Gives
 pub mod Parts
 pub mod Presets

@@ -18,4 +18,5 @@ mod tree;
 
 pub use error::ScriptError;
 pub use generator::generated_script;
+pub use generator::text::generated;
 pub use script::read_script;
