@@ -8,6 +8,7 @@ pub mod Listing
 pub mod Living
 pub mod Placed
 pub mod Places
+pub mod Putting
 pub mod Representing
 pub mod Settled
 pub mod Turned

@@ -9,7 +9,11 @@ pub mod Laws
 pub mod Listed
 pub mod Plain
 pub mod PlainAnswering
+pub mod Putting
 pub mod Reserved
+pub mod Served
+pub mod Stepping
 pub mod Telling
 pub mod TestLaws
 pub mod Tests
+pub mod Tracking

@@ -9,6 +9,7 @@ use super::{Answer, Message};
 use crate::Reservation;
 use p2p_base::{Feedback, List, NoRoom, PublicKey, Sent};
 use p2p_discovery::{BitVec, Info};
+use p2p_flow::TrackedPeers;
 use std::alloc::{AllocError, Global};
 use std::collections::BTreeMap;
 use std::marker::Model;
@@ -19,12 +20,12 @@ use std::marker::Model;
 ///
 /// Ports `Mailbox` of commonware-p2p's discovery tracker, together with the channels on which the tracker answers.
 #[derive(Drop)]
-pub struct Mailbox<P> {
+pub struct Mailbox<P: PublicKey> {
     messages: p2p_base::Mailbox<Message<P>>,
     answers: BTreeMap<u64, Answer<P>>,
 }
 
-impl<P> Model for Mailbox<P> {
+impl<P: PublicKey> Model for Mailbox<P> {
     ghost use Rattle.p2p_discovery_directory.specs.Asking.{Way};
 
     ghost Value = { Way P };
@@ -149,6 +150,119 @@ impl<P: PublicKey> Mailbox<P> {
         ensures memory { OnErr result (self.new ≡ self.old) }
     {
         self.put(Message::Peers { peers })
+    }
+
+    /// Asks the tracker to track the peers of one more set. Tells what became of the message.
+    ///
+    /// `Err` only where memory runs out, and the mailbox stays as it was then.
+    pub fn register(&mut self, index: u64, peers: TrackedPeers<P>) -> Result<Feedback, AllocError>
+        ensures told { IfOk result (λ f. Outcome f ≡ heard_of self.old (message.Register index peers)) }
+        ensures after { OnOk result (self.new ≡ with_message self.old (message.Register index peers)) }
+        ensures memory { OnErr result (self.new ≡ self.old) }
+    {
+        self.put(Message::Register { index, peers })
+    }
+
+    /// Asks who is in the set of an index; `ticket` names the question. Tells what became of the message.
+    ///
+    /// `Err` only where memory runs out, and the mailbox stays as it was then.
+    pub fn peer_set(&mut self, index: u64, ticket: u64) -> Result<Feedback, AllocError>
+        ensures told { IfOk result (λ f. Outcome f ≡ heard_of self.old (message.PeerSet index ticket)) }
+        ensures after { OnOk result (self.new ≡ with_message self.old (message.PeerSet index ticket)) }
+        ensures memory { OnErr result (self.new ≡ self.old) }
+    {
+        self.put(Message::PeerSet { index, ticket })
+    }
+
+    /// Asks for the peer sets that are tracked from now on, and for the latest one; `ticket` names the subscription. Tells what became of the message.
+    ///
+    /// `Err` only where memory runs out, and the mailbox stays as it was then.
+    pub fn subscribe(&mut self, ticket: u64) -> Result<Feedback, AllocError>
+        ensures told { IfOk result (λ f. Outcome f ≡ heard_of self.old (message.Subscribe ticket)) }
+        ensures after { OnOk result (self.new ≡ with_message self.old (message.Subscribe ticket)) }
+        ensures memory { OnErr result (self.new ≡ self.old) }
+    {
+        self.put(Message::Subscribe { ticket })
+    }
+
+    /// Asks the tracker to disconnect a peer, and to keep it away. Tells what became of the message.
+    ///
+    /// `Err` only where memory runs out, and the mailbox stays as it was then.
+    pub fn block(&mut self, public_key: P) -> Result<Feedback, AllocError>
+        ensures told { IfOk result (λ f. Outcome f ≡ heard_of self.old (message.Block public_key)) }
+        ensures after { OnOk result (self.new ≡ with_message self.old (message.Block public_key)) }
+        ensures memory { OnErr result (self.new ≡ self.old) }
+    {
+        self.put(Message::Block { public_key })
+    }
+
+    /// Asks for the set of blocked keys, now and whenever it changes; `ticket` names the subscription. Tells what became of the message.
+    ///
+    /// `Err` only where memory runs out, and the mailbox stays as it was then.
+    pub fn subscribe_blocked(&mut self, ticket: u64) -> Result<Feedback, AllocError>
+        ensures told { IfOk result (λ f. Outcome f ≡ heard_of self.old (message.SubscribeBlocked ticket)) }
+        ensures after { OnOk result (self.new ≡ with_message self.old (message.SubscribeBlocked ticket)) }
+        ensures memory { OnErr result (self.new ≡ self.old) }
+    {
+        self.put(Message::SubscribeBlocked { ticket })
+    }
+
+    /// Asks which peers may be dialed. Tells what became of the message.
+    ///
+    /// `Err` only where memory runs out, and the mailbox stays as it was then.
+    ///
+    /// Ports `Mailbox::dialable` of commonware-p2p, which also waits for the answer.
+    pub fn dialable(&mut self) -> Result<Feedback, AllocError>
+        ensures told { IfOk result (λ f. Outcome f ≡ heard_of self.old (message.Dialable)) }
+        ensures after { OnOk result (self.new ≡ with_message self.old (message.Dialable)) }
+        ensures memory { OnErr result (self.new ≡ self.old) }
+    {
+        self.put(Message::Dialable)
+    }
+
+    /// Asks the tracker to reserve a peer that is to be dialed. Tells what became of the message.
+    ///
+    /// `Err` only where memory runs out, and the mailbox stays as it was then.
+    ///
+    /// Ports `Mailbox::dial` of commonware-p2p, which also waits for the answer.
+    pub fn dial(&mut self, public_key: P) -> Result<Feedback, AllocError>
+        ensures told { IfOk result (λ f. Outcome f ≡ heard_of self.old (message.Dial public_key)) }
+        ensures after { OnOk result (self.new ≡ with_message self.old (message.Dial public_key)) }
+        ensures memory { OnErr result (self.new ≡ self.old) }
+    {
+        self.put(Message::Dial { public_key })
+    }
+
+    /// Asks whether a peer may connect, for a handshake. Tells what became of the message.
+    ///
+    /// `Err` only where memory runs out, and the mailbox stays as it was then.
+    ///
+    /// Ports `Mailbox::acceptable` of commonware-p2p, which also waits for the answer.
+    pub fn acceptable(&mut self, public_key: P, handshake: u64) -> Result<Feedback, AllocError>
+        ensures told { IfOk result (λ f. Outcome f ≡ heard_of self.old (message.Acceptable public_key handshake)) }
+        ensures after { OnOk result (self.new ≡ with_message self.old (message.Acceptable public_key handshake)) }
+        ensures memory { OnErr result (self.new ≡ self.old) }
+    {
+        self.put(Message::Acceptable {
+            public_key,
+            handshake,
+        })
+    }
+
+    /// Asks the tracker to reserve a peer that has connected, for a handshake. Tells what became of the message.
+    ///
+    /// `Err` only where memory runs out, and the mailbox stays as it was then.
+    ///
+    /// Ports `Mailbox::listen` of commonware-p2p, which also waits for the answer.
+    pub fn listen(&mut self, public_key: P, handshake: u64) -> Result<Feedback, AllocError>
+        ensures told { IfOk result (λ f. Outcome f ≡ heard_of self.old (message.Listen public_key handshake)) }
+        ensures after { OnOk result (self.new ≡ with_message self.old (message.Listen public_key handshake)) }
+        ensures memory { OnErr result (self.new ≡ self.old) }
+    {
+        self.put(Message::Listen {
+            public_key,
+            handshake,
+        })
     }
 
     /// Gives a reservation back to the tracker. Tells what became of the message.

@@ -1,14 +1,44 @@
-//! `Message`, what the tracker is told by connections.
+//! `Message`, what the tracker is told and asked.
 use crate::Metadata;
 use p2p_base::{Keep, List, Policy, PublicKey, UnreliablePolicy};
 use p2p_discovery::{BitVec, Info};
+use p2p_flow::TrackedPeers;
 
-/// What connections tell the tracker. A full mailbox keeps it in its overflow.
+/// What the tracker is told and asked. A full mailbox keeps it in its overflow.
 ///
-/// Ports those of `Message` of commonware-p2p's discovery tracker that connections send, with a number in place of the sender that
-/// it answers by and of the connection's mailbox.
+/// Ports `Message` of commonware-p2p's discovery tracker, with numbers in place of the senders that it answers by and of a connection's
+/// mailbox.
 #[derive(Drop, PartialEq, Eq, Debug)]
-pub enum Message<P> {
+pub enum Message<P: PublicKey> {
+    /// The peers of one more set are to be tracked.
+    Register {
+        /// The index of the set.
+        index: u64,
+        /// Its peers.
+        peers: TrackedPeers<P>,
+    },
+    /// It is asked who is in a set.
+    PeerSet {
+        /// The index of the set.
+        index: u64,
+        /// The question, which is answered.
+        ticket: u64,
+    },
+    /// A subscription wants the peer sets that are tracked from now on, and the latest one.
+    Subscribe {
+        /// The subscription.
+        ticket: u64,
+    },
+    /// A peer is to be disconnected and kept away.
+    Block {
+        /// The peer.
+        public_key: P,
+    },
+    /// A subscription wants the set of blocked keys, now and whenever it changes.
+    SubscribeBlocked {
+        /// The subscription.
+        ticket: u64,
+    },
     /// A connection of a peer has begun, and waits for an answer.
     Connect {
         /// The peer.
@@ -34,6 +64,27 @@ pub enum Message<P> {
     Peers {
         /// The infos.
         peers: List<Info<P>>,
+    },
+    /// It is asked which peers may be dialed now.
+    Dialable,
+    /// A peer is to be reserved for a dial, where it may be dialed.
+    Dial {
+        /// The peer.
+        public_key: P,
+    },
+    /// It is asked whether a peer may connect.
+    Acceptable {
+        /// The peer.
+        public_key: P,
+        /// The handshake, which is answered.
+        handshake: u64,
+    },
+    /// A peer that has connected is to be reserved, where it may connect.
+    Listen {
+        /// The peer.
+        public_key: P,
+        /// The handshake, which is answered.
+        handshake: u64,
     },
     /// A reservation is given back.
     Release {
