@@ -1,5 +1,5 @@
 -- What a step of the tracker comes to, and what it asks of the message that it takes.
-use Rattle.std.specs.Prelude.{◌≡◌, ℕ, Bool, true, false, not, ◌||◌, List, Option, Some, None}
+use Rattle.std.specs.Prelude.{◌≡◌, ℕ, Bool, true, false, not, ◌||◌, List, Some, None}
 use Rattle.std.specs.declared.cmp.Ordering.{Ordering}
 use Rattle.p2p_base.specs.Queue.{oldest}
 use Rattle.p2p_discovery_directory.specs.declared.call.Call.TheVariants as call

@@ -1,7 +1,6 @@
 use Rattle.std.proofs.Common.{ap, ◌∙◌, string_bytes}
 use Rattle.std.proofs.lemmas.Result.{IfOk-weaker}
 use Rattle.serde_json.specs.View.{view}
-use Rattle.p2p_sim_script.specs.Generated.{generated_events}
 use Rattle.p2p_sim_script.specs.GeneratedTree.{script_tree}
 use Rattle.p2p_sim_script.proofs.GeneratedTrees.{generated-said}
 use Rattle.p2p_sim_script.proofs.generator.text.generated.Goals as goal

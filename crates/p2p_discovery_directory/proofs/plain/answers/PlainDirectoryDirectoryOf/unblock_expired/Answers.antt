@@ -1,4 +1,4 @@
-use Rattle.std.proofs.Common.{◌≡◌, true, false, ◌∷◌, refl, sym, ap, ◌∙◌, subst}
+use Rattle.std.proofs.Common.{◌≡◌, true, false, refl, sym, ap, ◌∙◌, subst}
 use Rattle.p2p_discovery_directory.specs.declared.call.Call.TheVariants as call
 use Rattle.p2p_discovery_directory.specs.AsLookup.{lookup_calls}
 use Rattle.p2p_discovery_directory.specs.Plain.{Represents, SameTerms}
