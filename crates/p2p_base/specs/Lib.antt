@@ -4,5 +4,4 @@ pub mod Moments
 pub mod Outcome
 pub mod Policy
 pub mod Queue
-pub mod Ready
 pub mod Sorted

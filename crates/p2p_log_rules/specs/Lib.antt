@@ -35,7 +35,6 @@ pub mod Rows
 pub mod Serving
 pub mod Spawning
 pub mod Standing
-pub mod Stopping
 pub mod Taking
 pub mod TrackerPuts
 pub mod TrackerRows
