@@ -4,4 +4,5 @@ pub mod Moments
 pub mod Outcome
 pub mod Policy
 pub mod Queue
+pub mod Ready
 pub mod Sorted
