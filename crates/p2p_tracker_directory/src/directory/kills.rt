@@ -1,5 +1,5 @@
 //! Who is killed by a peer set.
-ghost use Rattle.std.specs.Prelude.{◌≡◌, IfOk};
+ghost use Rattle.std.specs.Prelude.{◌≡◌, ◌++◌, IfOk, OnOk};
 ghost use Rattle.std.specs.List.{list_any, filter};
 ghost use Rattle.std.specs.Map.{lookup};
 ghost use Rattle.std.specs.BTreeMap.{is_at};
@@ -90,6 +90,15 @@ fn is_killed<C: PublicKey>(
     }
 }
 
+// Adds the peers of a set to a list of keys.
+fn add_peers<C: PublicKey>(keys: &mut Vec<C>, set: &TrackedSet<C>) -> Result<(), AllocError>
+    ensures { OnOk result (keys.new.items ≡ (keys.old.items ++ set.now.primary) ++ set.now.secondary) }
+{
+    keys.extend_from_slice(set.primary.as_slice())?;
+    keys.extend_from_slice(set.secondary.as_slice())?;
+    Ok(())
+}
+
 // Those of whom something changes: the peers of a set that comes and of one that goes.
 fn candidates<C: PublicKey>(
     alloc: Global,
@@ -98,11 +107,10 @@ fn candidates<C: PublicKey>(
 ) -> Result<Vec<C>, AllocError>
     ensures { IfOk result (λ v. v.items ≡ candidates set.now (option_copied fallen.entry)) }
 {
-    let mut keys = Vec::from_slice(alloc, set.primary.as_slice())?;
-    keys.extend_from_slice(set.secondary.as_slice())?;
+    let mut keys = Vec::new(alloc);
+    add_peers(&mut keys, set)?;
     if let Some(fallen) = fallen {
-        keys.extend_from_slice(fallen.primary.as_slice())?;
-        keys.extend_from_slice(fallen.secondary.as_slice())?;
+        add_peers(&mut keys, fallen)?;
     }
     Ok(keys)
 }

@@ -34,9 +34,11 @@ pub(super) fn copy_peers<C: PublicKey>(
     ensures same { IfOk result (λ v. v.items ≡ peers.now) }
     ensures ordered { IfOk result (λ v. IsStrictlySortedBy C.cmp (keys_of v.items)) }
 {
+    let listed = peers.keys();
+    let addresses = peers.values();
     let mut copies = Vec::with_capacity(alloc, peers.len())?;
-    for (key, address) in peers.keys().iter().zip(peers.values()) {
-        add_copy(&mut copies, alloc, key, address)?;
+    for place in 0..peers.len() {
+        add_copy(&mut copies, alloc, &listed[place], &addresses[place])?;
     }
     Ok(copies)
 }
