@@ -6,7 +6,7 @@ use Rattle.std.proofs.lemmas.List.Kept.{IsStrictlySortedBy-filter}
 use Rattle.std.specs.Prelude.{is_some, position}
 use Rattle.std.specs.List.{list_any, filter, position_from}
 use Rattle.std.specs.List.Sorted.{IsStrictlySortedBy}
-use Rattle.std.specs.Map.{keys_of, values_of}
+use Rattle.std.specs.Map.{keys_of}
 use Rattle.std.specs.BTreeMap.{is_at}
 use Rattle.std.specs.Cmp.{IsTotalOrder}
 use Rattle.std.specs.declared.cmp.Ordering.{Ordering}
@@ -27,10 +27,6 @@ is_some-position_from test i (x ∷ xs) = at (test x) (is_some-position_from tes
 -- a test finds a place exactly where an element passes
 pub is_some-position : {X : Type 0} (test : X → Bool) (xs : List X) → is_some (position test xs) ≡ list_any test xs
 is_some-position test xs = ap is_some (position_from-zero test xs) ∙ is_some-position_from test 0 xs
-
-pub length-parts : {K V : Type 0} (es : List (K × V)) → length (keys_of es) ≡ length (values_of es)
-length-parts [] = refl
-length-parts (e ∷ es) = ap suc (length-parts es)
 
 keys-suc : {P A : Type 0} (es : List (P × A)) (i : ℕ) (e : P × A) → i < length es → e ≡ get_or es i e → keys_of (take (suc i) es) ≡ keys_of (take i es) ++ e.0 ∷ []
 keys-suc [] i e h q = absurd (omega (arith, h))
