@@ -21,6 +21,8 @@ pub enum Cause {
     ReceiverClosed,
     /// It was in flight over a link that was cut.
     LinkCut,
+    /// It waited at a node that stopped, or was in flight towards it.
+    NodeStopped,
 }
 
 /// What became of a copy.

@@ -80,6 +80,10 @@ pub enum Reply {
     Gates(GatesReply),
     /// A connection ended in this step, for this reason.
     Ended(Ended),
+    /// Nothing waits in the channel, and its node has stopped: no message will come.
+    NetworkClosed,
+    /// Nothing waits for the subscription, and its node has stopped: nothing will come.
+    StreamEnded,
 }
 
 /// An event, its reply, the names of the items that it took, what it put in which queue, and what it ended.
@@ -147,6 +151,8 @@ impl Reply {
             Reply::Blocked(keys) => Ok(Reply::Blocked(keys.try_clone()?)),
             Reply::Gates(told) => Ok(Reply::Gates(*told)),
             Reply::Ended(reason) => Ok(Reply::Ended(*reason)),
+            Reply::NetworkClosed => Ok(Reply::NetworkClosed),
+            Reply::StreamEnded => Ok(Reply::StreamEnded),
         }
     }
 }

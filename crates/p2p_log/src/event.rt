@@ -38,6 +38,12 @@ pub enum Act {
     Start {
         node: u64,
     },
+    /// Stops a node for good: what waits there ends, but for what its readers and those who asked it may still take. A start that
+    /// finds no place to listen at stops the node in this way too, and is its only start.
+    Stop {
+        by_start: bool,
+        node: u64,
+    },
     /// Sends bytes on a channel.
     Send {
         bytes: Bytes,
@@ -211,6 +217,10 @@ impl Act {
                 quota: *quota,
             }),
             Act::Start { node } => Ok(Act::Start { node: *node }),
+            Act::Stop { by_start, node } => Ok(Act::Stop {
+                by_start: *by_start,
+                node: *node,
+            }),
             Act::Send {
                 bytes,
                 channel,

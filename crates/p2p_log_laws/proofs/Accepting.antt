@@ -1,5 +1,5 @@
 -- Each message is accepted for those whom its channel's quota admits.
-use Rattle.std.proofs.Common.{◌≡◌, ℕ, Bool, true, false, List, [], ◌∷◌, length, ◌⊎◌, inl, inr, refl, sym, subst, Option, Some, None}
+use Rattle.std.proofs.Common.{◌≡◌, ℕ, Bool, true, false, cond, List, [], ◌∷◌, length, ◌⊎◌, inl, inr, refl, sym, subst, Option, Some, None}
 use Rattle.std.specs.Prelude.{nat_lt, nat_le, take}
 use Rattle.p2p_base.specs.declared.key.Key.{Key}
 use Rattle.p2p_base.specs.declared.outcome.Feedback.TheVariants as feedback
@@ -20,11 +20,11 @@ use Rattle.p2p_log_rules.specs.declared.row.Row.{Row}
 use Rattle.p2p_log_rules.specs.Admitting.{offered, keys_admitted}
 use Rattle.p2p_log_rules.specs.Checking.{Check, check_of}
 use Rattle.p2p_log_rules.specs.Effect.{only, row, effect, limit_at, router_capacity, sent_row, fitting_row, admitted_row, taking, takes_list, send_to_row, send_keys_row, send_row, spent_row}
-use Rattle.p2p_log_rules.specs.Facts.{channels, capacity_in, is_up}
+use Rattle.p2p_log_rules.specs.Facts.{channels, capacity_in, is_up, is_stopped}
 use Rattle.p2p_log_rules.specs.Frames.{frame_of}
 use Rattle.p2p_log_rules.specs.Lawful.{IsLawful}
 use Rattle.p2p_log_laws.specs.Admitted.{EachIsAdmitted, EachIsChecked, IsRefused, IsTurnedAway}
-use Rattle.p2p_log_laws.specs.Admitted.IsTurnedAway.{TooLong, MailboxFull}
+use Rattle.p2p_log_laws.specs.Admitted.IsTurnedAway.{TooLong, MailboxFull, Stopped}
 use Rattle.p2p_log_laws.proofs.Prefixes.{entry_due}
 
 module _ (configs : List Config) (before : List Entry) (a : Act) (bytes : List ℕ) (n channel : ℕ) (priority : Bool) where
@@ -32,7 +32,7 @@ module _ (configs : List Config) (before : List Entry) (a : Act) (bytes : List �
   abbrev IsFor : List Key → Row → Type 0
   IsFor keys r = (accepted_by a r.reply ≡ keys) ⊎ ((accepted_by a r.reply ≡ []) × IsTurnedAway configs before n bytes)
 
-  module _ (accepted_with refused_with : Reply) (keys : List Key) (takes : accepted_by a accepted_with ≡ keys) (refuses : accepted_by a refused_with ≡ [])
+  module _ (accepted_with refused_with closed_with : Reply) (keys : List Key) (takes : accepted_by a accepted_with ≡ keys) (refuses : accepted_by a refused_with ≡ []) (closes : accepted_by a closed_with ≡ [])
       (too_long : (size limit : ℕ) → accepted_by a (reply.MessageTooLarge size limit) ≡ []) where
     abbrev sent : Bool → Bool → Row
     sent up full = sent_row accepted_with refused_with up full n (length before) channel priority (frame_of channel bytes) keys
@@ -42,13 +42,20 @@ module _ (configs : List Config) (before : List Entry) (a : Act) (bytes : List �
     by_start true true is = inr (refuses, MailboxFull is)
     by_start true false is = inl takes
 
-    by_size : (long up full : Bool) → nat_lt (limit_at configs n) (length bytes) ≡ long → nat_le (router_capacity configs before n) (length (line before (queue.Router n))) ≡ full
-        → IsFor keys (fitting_row long (length bytes) (limit_at configs n) (sent up full))
-    by_size true up full long is = inr (too_long (length bytes) (limit_at configs n), TooLong long)
-    by_size false up full long is = by_start up full is
+    by_stop : (stopped up full : Bool) → is_stopped before n ≡ stopped → nat_le (router_capacity configs before n) (length (line before (queue.Router n))) ≡ full
+        → IsFor keys (cond stopped (only closed_with) (sent up full))
+    by_stop true up full stop is = inr (closes, Stopped stop)
+    by_stop false up full stop is = by_start up full is
 
-    pub send_to_is_for : IsFor keys (send_to_row configs before accepted_with refused_with bytes channel n priority keys)
-    send_to_is_for = by_size (nat_lt (limit_at configs n) (length bytes)) (is_up before n) (nat_le (router_capacity configs before n) (length (line before (queue.Router n)))) refl refl
+    by_size : (long stopped up full : Bool) → nat_lt (limit_at configs n) (length bytes) ≡ long → is_stopped before n ≡ stopped
+        → nat_le (router_capacity configs before n) (length (line before (queue.Router n))) ≡ full
+        → IsFor keys (fitting_row long (length bytes) (limit_at configs n) (cond stopped (only closed_with) (sent up full)))
+    by_size true stopped up full long stop is = inr (too_long (length bytes) (limit_at configs n), TooLong long)
+    by_size false stopped up full long stop is = by_stop stopped up full stop is
+
+    pub send_to_is_for : IsFor keys (send_to_row configs before accepted_with refused_with closed_with bytes channel n priority keys)
+    send_to_is_for =
+        by_size (nat_lt (limit_at configs n) (length bytes)) (is_stopped before n) (is_up before n) (nat_le (router_capacity configs before n) (length (line before (queue.Router n)))) refl refl refl
 
 -- ---- send
 
@@ -60,10 +67,10 @@ module _ (configs : List Config) (before : List Entry) (bytes : List ℕ) (n cha
   Accepts at r =
       (accepted_by a_send r.reply ≡ keys_admitted before n channel at (offered before n channel to)) ⊎ ((accepted_by a_send r.reply ≡ []) × IsRefused configs before n channel bytes)
 
-  by_keys : (asked keys : List Key) → IsFor configs before a_send bytes n channel priority keys (admitted_row asked keys (send_to_row configs before (reply.Sent keys) (reply.Sent []) bytes channel n priority keys))
-  by_keys [] keys = send_to_is_for configs before a_send bytes n channel priority (reply.Sent keys) (reply.Sent []) keys refl refl (λ size limit. refl)
+  by_keys : (asked keys : List Key) → IsFor configs before a_send bytes n channel priority keys (admitted_row asked keys (send_to_row configs before (reply.Sent keys) (reply.Sent []) (reply.Sent []) bytes channel n priority keys))
+  by_keys [] keys = send_to_is_for configs before a_send bytes n channel priority (reply.Sent keys) (reply.Sent []) (reply.Sent []) keys refl refl refl (λ size limit. refl)
   by_keys (k ∷ ks) [] = inl refl
-  by_keys (k ∷ ks) (j ∷ js) = send_to_is_for configs before a_send bytes n channel priority (reply.Sent (j ∷ js)) (reply.Sent []) (j ∷ js) refl refl (λ size limit. refl)
+  by_keys (k ∷ ks) (j ∷ js) = send_to_is_for configs before a_send bytes n channel priority (reply.Sent (j ∷ js)) (reply.Sent []) (reply.Sent []) (j ∷ js) refl refl refl (λ size limit. refl)
 
   send_accepts : (at : ℕ) (o : Option ℕ) → capacity_in (channels configs before n) channel ≡ o → Accepts at (send_row configs before bytes channel n priority to at)
   send_accepts at o is = subst (λ (p : Option ℕ). Accepts at (elim p [ None ↦ only reply.Gone | Some _ ↦ due ])) (sym is) (by o is)
@@ -118,8 +125,8 @@ module _ (configs : List Config) (before : List Entry) (bytes : List ℕ) (check
       inl (
         c,
         is,
-        send_to_is_for configs before a_checked bytes c.node c.channel priority (reply.Outcome (Outcome feedback.Ok) c.node c.channel c.keys) (reply.Outcome Rejected c.node c.channel c.keys) c.keys
-            refl refl (λ size limit. refl),
+        send_to_is_for configs before a_checked bytes c.node c.channel priority (reply.Outcome (Outcome feedback.Ok) c.node c.channel c.keys) (reply.Outcome Rejected c.node c.channel c.keys)
+            (reply.Outcome (Outcome feedback.Closed) c.node c.channel c.keys) c.keys refl refl refl (λ size limit. refl),
       )
 
   effect_spends : (ev : Event) → ev.act ≡ a_checked → Spends (accepted_by a_checked (row configs before ev.at ev.seed ev.act).reply)

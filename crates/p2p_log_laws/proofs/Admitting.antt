@@ -28,7 +28,7 @@ use Rattle.p2p_log_rules.specs.Handshakes.{handshakes_of, is_handshaking, Peer, 
 use Rattle.p2p_log_rules.specs.Listening.{known_of, gate_rules_at, arrived_row, arrival_turn, listener_turn, has_place, listener_row}
 use Rattle.p2p_log_rules.specs.Puts.{turns_away}
 use Rattle.p2p_log_rules.specs.Rows.{only}
-use Rattle.p2p_log_rules.proofs.Handshakes.{Begins, Ends, handshakes_now, is_among, among-without, handshaking_early}
+use Rattle.p2p_log_rules.proofs.Handshakes.{Begins, Ends, Stops, handshakes_now, is_among, among-without, handshaking_early}
 use Rattle.p2p_log_rules.proofs.TakenAt.{taken_at-longer, taken_at-last}
 use Rattle.p2p_log_laws.proofs.Saying.{ComesFrom, Says, StandSays, first_says, PeersCome, comes_still}
 use Rattle.p2p_log_laws.proofs.Shape.{one_move}
@@ -106,11 +106,12 @@ module _ (n h : ℕ) (log : List Entry) (e : Entry) where
       begun begins true is so = inl is
       begun begins false is so = inr (eqb-true h (length log) (last (h == length log) so), begins.acts, begins.replied)
 
-      by : (handshakes_of (log ++ e ∷ []) n ≡ names) ⊎ (Begins log e n ⊎ Ends log e n) → (is_handshaking log n h ≡ true) ⊎ IsBegun
+      by : (handshakes_of (log ++ e ∷ []) n ≡ names) ⊎ (Begins log e n ⊎ (Ends log e n ⊎ Stops log e n)) → (is_handshaking log n h ≡ true) ⊎ IsBegun
       by (inl same) = inl (sym (ap (is_among h) same) ∙ runs)
       by (inr (inl begins)) =
           begun begins (is_among h names) refl (sym (list_any-append (λ k. h == k) names (length log ∷ [])) ∙ (sym (ap (is_among h) begins.now) ∙ runs))
-      by (inr (inr ends)) = inl (and_parts (not (h == ends.name)) (is_among h names) (sym (among-without ends.name h names) ∙ (sym (ap (is_among h) ends.now) ∙ runs))).1
+      by (inr (inr (inr stops))) = absurd (false≢true (sym (ap (is_among h) stops.now) ∙ runs))
+      by (inr (inr (inl ends))) = inl (and_parts (not (h == ends.name)) (is_among h names) (sym (among-without ends.name h names) ∙ (sym (ap (is_among h) ends.now) ∙ runs))).1
 
 -- ---- one more entry
 

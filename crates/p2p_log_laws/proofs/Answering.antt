@@ -40,11 +40,12 @@ use Rattle.p2p_log_rules.specs.Dialing.{Dials, dials_of, in_drawn_order, last_ke
 use Rattle.p2p_log_rules.specs.Dropping.{LinkEnd, dialing_end, arriving_end, dropping, attempt_step_row, listener_step_row}
 use Rattle.p2p_log_rules.specs.Puts.{gave_up, turns_away}
 use Rattle.p2p_log_rules.specs.Effect.{entry_of, row, send_step_row, recv_step_row}
-use Rattle.p2p_log_rules.specs.Facts.{is_up}
+use Rattle.p2p_base.specs.declared.outcome.Feedback.TheVariants as feedback
+use Rattle.p2p_log_rules.specs.Facts.{is_up, is_stopped}
 use Rattle.p2p_log_rules.specs.Handshakes.{is_handshaking, is_accepted, source_at, takes_acceptance}
 use Rattle.p2p_log_rules.specs.Listening.{known_of, gate_rules_at, gates_puts, arrived_row, arrival_turn, listener_turn, has_place, listener_row}
 use Rattle.p2p_log_rules.specs.Moves.{Moves}
-use Rattle.p2p_log_rules.specs.Rows.{only, is_spawner_full}
+use Rattle.p2p_log_rules.specs.Rows.{only, mailbox_size_at, is_spawner_full}
 use Rattle.p2p_log_rules.specs.Tracking.{key_cmp, rules_at, asked_by, calls_of, update_subscriptions, blocked_subscriptions}
 use Rattle.p2p_log_rules.specs.TrackerPuts as puts
 use Rattle.p2p_log_rules.specs.TrackerPuts.{acceptance, listen_grant, handshake_puts, item_puts, heeded}
@@ -201,13 +202,28 @@ module _ (w : Words) (n name : ℕ) where
 
     -- ---- questions of an oracle, of a dialer and of an attempt
 
+    asked_silent : (m : ℕ) → Each Silent (rows.asked_row configs log m).puts
+    asked_silent m = by (is_stopped log m)
+      where
+        due : Row
+        due = record {
+          reply = reply.Feedback (rows.feedback_by (mailbox_size_at configs m) (line log (queue.Tracker m)));
+          takes = [];
+          puts = (queue.Tracker m, item.Call (length log)) ∷ [];
+          ends = [];
+        }
+
+        by : (b : Bool) → Each Silent (cond b (only (reply.Feedback feedback.Closed)) due).puts
+        by true = tt
+        by false = (silent_item (queue.Tracker m) (item.Call (length log)) refl refl, tt)
+
     pub ask_silent : (what : Asked) (m : ℕ) → Each Silent (rows.ask_row configs log m what).puts
     ask_silent (ask.Track index peers) m = by_size (nat_lt (rows.most_peers_at configs m) (rows.size_at configs m peers))
       where
         by_size : (b : Bool) → Each Silent (cond b (only (reply.PeerSetTooLarge (rows.size_at configs m peers) (rows.most_peers_at configs m))) (rows.asked_row configs log m)).puts
         by_size true = tt
-        by_size false = (silent_item (queue.Tracker m) (item.Call (length log)) refl refl, tt)
-    ask_silent what m = (silent_item (queue.Tracker m) (item.Call (length log)) refl refl, tt)
+        by_size false = asked_silent m
+    ask_silent what m = asked_silent m
 
     dial_silent : (m : ℕ) (o : Option Key) → Each Silent (dial_puts m o)
     dial_silent m None = tt

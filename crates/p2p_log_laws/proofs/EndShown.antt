@@ -1,5 +1,5 @@
 -- Each entry that ends a connection shows why, ends no other, and no other ends it; and what waits for a router is read in order.
-use Rattle.std.proofs.Common.{◌≡◌, ℕ, suc, ◌<◌, ◌≤◌, Bool, true, false, cond, List, [], ◌∷◌, map, length, take, drop, Option, Some, inl, inr, refl, ap, sym, subst, ◌∙◌, arith, take-append-drop, eqb-true}
+use Rattle.std.proofs.Common.{◌≡◌, ℕ, suc, ◌<◌, ◌≤◌, Bool, true, false, cond, List, [], ◌∷◌, map, length, take, drop, Option, Some, ◌⊎◌, inl, inr, refl, ap, sym, subst, ◌∙◌, arith, take-append-drop, eqb-true}
 use Rattle.std.specs.Prelude.{◌||◌, filter, slice_get}
 use Rattle.std.proofs.lemmas.Bool.{and_parts, cases_lt, false≢true}
 use Rattle.std.proofs.lemmas.Option.{same_Some}
@@ -19,6 +19,8 @@ use Rattle.p2p_log.specs.declared.asked.Asked.TheVariants as ask
 use Rattle.p2p_log.specs.declared.event.Act.{Act}
 use Rattle.p2p_log.specs.declared.event.Act.TheVariants as act
 use Rattle.p2p_log.specs.declared.event.Event.{Event}
+use Rattle.p2p_log.specs.declared.end.Cause.TheVariants as cause
+use Rattle.p2p_log.specs.Drained.{all_end, drained_with}
 use Rattle.p2p_log.specs.Lines.{name_of, stays, live, line, stands_in}
 use Rattle.p2p_log.proofs.Each.{Has, Each-has, Has-get, Has-of_kept}
 use Rattle.p2p_log.proofs.QueueNames.{Each-in_queue, queue_from_same}
@@ -30,13 +32,15 @@ use Rattle.p2p_log_rules.specs.Connections.{ends_connection, half_at, live_half,
 use Rattle.p2p_log_rules.specs.Effect
 use Rattle.p2p_log_rules.specs.Effect.{effect, row}
 use Rattle.p2p_log_rules.specs.Facts.{is_up}
+use Rattle.p2p_log_rules.specs.Stopping.{brought_by, queues_at}
 use Rattle.p2p_log_rules.specs.Lawful.{IsLawful}
 use Rattle.p2p_log_rules.specs.Rows.{only}
 use Rattle.p2p_log_rules.specs.Tracking.{asked_by}
-use Rattle.p2p_log_rules.proofs.Connections.{half_act, IsEndOf, end_of, is_ended-append, half_parts, is_live}
+use Rattle.p2p_log_rules.proofs.Connections.{IsStopped, half_act, IsEndOf, end_of, is_ended-append, half_parts, is_live}
+use Rattle.p2p_log_rules.proofs.Channels.{IsStopOf}
 use Rattle.p2p_log_rules.proofs.Moves.{taken_stood}
 use Rattle.p2p_log_rules.proofs.Touches.{is_told_to}
-use Rattle.p2p_log_laws.specs.Endings.{HasReason, ShowsEnd, EachEndShows, EachEndsOne, EachIsEndedOnce, ReleasesAreTimely}
+use Rattle.p2p_log_laws.specs.Endings.{HasReason, ShowsEnd, StopsNode, EachEndShows, EachEndsOne, EachIsEndedOnce, ReleasesAreTimely}
 use Rattle.p2p_log_laws.specs.Leaving.{IsTakenFrom}
 use Rattle.p2p_log_laws.specs.Order.{is_before}
 use Rattle.p2p_log_laws.proofs.EndMade.{in_list, take_short, holds_on}
@@ -53,13 +57,6 @@ use Rattle.p2p_log_laws.proofs.Shapes.{row_shape}
 use Rattle.p2p_log_laws.proofs.Sublists.{before_later}
 
 module _ (configs : List Config) (script : List Event) (log : List Entry) (lawful : IsLawful configs script log) where
-  -- it had a half that had not ended
-  lived_half : (i n conn : ℕ) (e : Entry) → slice_get log i ≡ Some e → ends_connection n conn (take i log) e ≡ true → (half : Half) × (live_half (take i log) n conn ≡ Some half)
-  lived_half i n conn e at ends =
-      let due = entry_due configs script log lawful i e at in
-      let end = ending configs (take i log) due.0 n conn (subst (λ (d : Entry). ends_connection n conn (take i log) d ≡ true) due.1 ends) in
-      (end.half, end.lived)
-
   -- ---- why
 
   shows : (before : List Entry) (ev : Event) (n conn : ℕ) → IsEndRow configs before n conn (row configs before ev.at ev.seed ev.act)
@@ -83,8 +80,26 @@ module _ (configs : List Config) (script : List Event) (log : List Entry) (lawfu
       (shows (take i log) due.0 n conn
       (end_row_is configs (take i log) due.0 n conn (Told-each configs script log lawful i).standing.fitting (subst (λ (d : Entry). IsEndOf d n conn) due.1 end)))
 
+  -- a node that had not stopped stops in the entry
+  stop_shows : (before : List Entry) (ev : Event) (n : ℕ) → IsStopOf before (effect configs before ev) n → StopsNode (effect configs before ev) n
+  unfolding effect row
+  stop_shows before ev n stop = record {
+    by_start = stop.by_start;
+    acts = stop.acts;
+    done = ap (λ a. (row configs before ev.at ev.seed a).reply) stop.acts
+        ∙ ap (λ b. (cond b (only reply.Gone) (record { reply = reply.Ok; takes = []; puts = []; ends = all_end cause.NodeStopped (drained_with (brought_by before) (live before) (queues_at before n)) })).reply) stop.lasted;
+  }
+
+  stopped_shows : (i n conn : ℕ) (e : Entry) → slice_get log i ≡ Some e → IsStopped (take i log) e n conn → StopsNode e n
+  stopped_shows i n conn e at over =
+      let due = entry_due configs script log lawful i e at in
+      subst (λ (d : Entry). StopsNode d n) (sym due.1) (stop_shows (take i log) due.0 n (subst (λ (d : Entry). IsStopOf (take i log) d n) due.1 over.stop))
+
   pub each_end_shows : EachEndShows configs log
-  each_end_shows i n conn e at ends = half_shows i n conn e at (end_of (take i log) e n conn ends)
+  each_end_shows i n conn e at ends = elim (end_of (take i log) e n conn ends) [
+    | inl end ↦ inl (half_shows i n conn e at end)
+    | inr over ↦ inr (stopped_shows i n conn e at over)
+  ]
 
   -- ---- one, and once
 
@@ -94,11 +109,21 @@ module _ (configs : List Config) (script : List Event) (log : List Entry) (lawfu
   same_half true false n m c d is = absurd (cc)
   same_half false true n m c d is = absurd (cc)
 
+  same_stop : (a b : Bool) (n m : ℕ) → act.Stop a n ≡ act.Stop b m → n ≡ m
+  same_stop a b n m is = cc
+
+  no_stop : (s b : Bool) (n m c : ℕ) → half_act s c n ≡ act.Stop b m → ⊥
+  no_stop true b n m c is = cc
+  no_stop false b n m c is = cc
+
   pub each_ends_one : EachEndsOne log
-  each_ends_one i n m c d e at first second =
-      let one = end_of (take i log) e n c first in
-      let two = end_of (take i log) e m d second in
-      same_half one.sends two.sends n m c d (sym one.acts ∙ two.acts)
+  each_ends_one i n m c d e at first second = by (end_of (take i log) e n c first) (end_of (take i log) e m d second)
+    where
+      by : IsEndOf e n c ⊎ IsStopped (take i log) e n c → IsEndOf e m d ⊎ IsStopped (take i log) e m d → (n ≡ m) × ((c ≡ d) ⊎ StopsNode e n)
+      by (inl one) (inl two) = let same = same_half one.sends two.sends n m c d (sym one.acts ∙ two.acts) in (same.0, inl same.1)
+      by (inr one) (inr two) = (same_stop one.stop.by_start two.stop.by_start n m (sym one.stop.acts ∙ two.stop.acts), inr (stopped_shows i n c e at one))
+      by (inl one) (inr two) = absurd (no_stop one.sends two.stop.by_start n m c (sym one.acts ∙ two.stop.acts))
+      by (inr one) (inl two) = absurd (no_stop two.sends one.stop.by_start m n d (sym two.acts ∙ one.stop.acts))
 
   -- it has ended from then on
   pub ended_on : (n conn i j : ℕ) → i ≤ j → is_ended (take i log) n conn ≡ true → is_ended (take j log) n conn ≡ true
@@ -109,7 +134,12 @@ module _ (configs : List Config) (script : List Event) (log : List Entry) (lawfu
   ended_by n conn i e at ends = ap (λ l. is_ended l n conn) (take_next log i e at) ∙ (is_ended-append (take i log) e n conn ∙ (ap (λ b. is_ended (take i log) n conn || b) ends ∙ or_true (is_ended (take i log) n conn)))
 
   lived : (n conn i : ℕ) (e : Entry) → slice_get log i ≡ Some e → ends_connection n conn (take i log) e ≡ true → is_ended (take i log) n conn ≡ false
-  lived n conn i e at ends = let live = lived_half i n conn e at ends in (is_live (take i log) n conn live.0 live.1).lives
+  lived n conn i e at ends =
+      let due = entry_due configs script log lawful i e at in
+      elim (ending configs (take i log) due.0 n conn (subst (λ (d : Entry). ends_connection n conn (take i log) d ≡ true) due.1 ends)) [
+        | inl end ↦ (is_live (take i log) n conn end.half end.lived).lives
+        | inr over ↦ over.lived
+      ]
 
   not_again : (n conn i j : ℕ) (e f : Entry) → slice_get log i ≡ Some e → slice_get log j ≡ Some f → ends_connection n conn (take i log) e ≡ true → ends_connection n conn (take j log) f ≡ true → i < j → ⊥
   not_again n conn i j e f at also first second less = false≢true (sym (lived n conn j f also second) ∙ ended_on n conn (suc i) j less (ended_by n conn i e at first))

@@ -1,5 +1,5 @@
 -- What an entry does that ends a connection, whatever else it ends: on this rest the laws of ends.
-use Rattle.std.proofs.Common.{◌≡◌, ℕ, suc, Bool, true, false, List, [], ◌∷◌, Some, inl, inr, refl, ap, sym, subst, ◌∙◌, eq-eqb, eqb-true}
+use Rattle.std.proofs.Common.{◌≡◌, ℕ, suc, Bool, true, false, List, [], ◌∷◌, Some, ◌⊎◌, inl, inr, refl, ap, sym, subst, ◌∙◌, eq-eqb, eqb-true}
 use Rattle.std.specs.Prelude.{◌==◌, ◌||◌, slice_get}
 use Rattle.std.specs.List.{list_any, AllByRecursion as Each}
 use Rattle.std.proofs.lemmas.Bool.{false≢true}
@@ -16,7 +16,7 @@ use Rattle.p2p_log_rules.specs.declared.row.Row.{Row}
 use Rattle.p2p_log_rules.specs.Connections.{is_end, live_half, ends_connection}
 use Rattle.p2p_log_rules.specs.Effect.{row, effect}
 use Rattle.p2p_log_rules.proofs.Steps.{steps_tracker}
-use Rattle.p2p_log_rules.proofs.Connections.{half_act, end_of}
+use Rattle.p2p_log_rules.proofs.Connections.{IsStopped, half_act, end_of}
 use Rattle.p2p_log_laws.proofs.EndShape.{is_named, all_released}
 use Rattle.p2p_log_laws.proofs.HalfSteps.{IsStep, send_is, receive_is}
 
@@ -73,7 +73,7 @@ module _ (configs : List Config) (log : List Entry) (ev : Event) (n conn : ℕ) 
       (of_step log n conn (half_act false conn n) (row configs log ev.at ev.seed (half_act false conn n)) refl
       (receive_is configs log conn n ev.at (λ x. Unit {0}) (λ i. tt) (λ c i. tt)))
 
-  -- each entry that ends one
-  pub ending : ends_connection n conn log (effect configs log ev) ≡ true → IsEndIn log n conn ev.act (row configs log ev.at ev.seed ev.act)
+  -- each entry that ends one, and is no stop of its node
+  pub ending : ends_connection n conn log (effect configs log ev) ≡ true → IsEndIn log n conn ev.act (row configs log ev.at ev.seed ev.act) ⊎ IsStopped log (effect configs log ev) n conn
   unfolding effect
-  ending ends = let end = end_of log (effect configs log ev) n conn ends in by_half end.sends end.acts end.says
+  ending ends = elim (end_of log (effect configs log ev) n conn ends) [ inl end ↦ inl (by_half end.sends end.acts end.says) | inr stop ↦ inr stop ]

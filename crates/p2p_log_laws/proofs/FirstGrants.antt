@@ -30,9 +30,10 @@ use Rattle.p2p_log_laws.proofs.Fitting.{StandsFit, fits}
 use Rattle.p2p_log_laws.proofs.HandshakeGrants.{GrantsFirst}
 use Rattle.p2p_log_laws.proofs.HandshakeLaws.{AreHandshakes, handshakes_first, handshakes_more}
 use Rattle.p2p_log_laws.proofs.LineShape.{in_line}
-use Rattle.p2p_log_laws.proofs.Ending.{ending}
+use Rattle.p2p_log_laws.proofs.Living.{ends_made}
 use Rattle.p2p_log_laws.proofs.OneAsked.{splits, left}
 use Rattle.p2p_log_laws.proofs.Plain.{StandsPlain}
+use Rattle.p2p_log_laws.proofs.Running.{StandRuns, runs_none, runs_more}
 use Rattle.p2p_log_laws.proofs.Shape.{Shape}
 use Rattle.p2p_log_laws.proofs.Shapes.{row_shape}
 use Rattle.p2p_log_laws.proofs.Weighing.{weight}
@@ -99,12 +100,13 @@ module _ (n : ℕ) (key : Key) (log : List Entry) (h : ℕ) where
 pub record Stand (configs : List Config) (n : ℕ) (log : List Entry) : Type 0 where
   pub fitting : Each StandsFit (live log)
   pub handshakes : AreHandshakes configs n log
+  pub running : Each (StandRuns log) (live log)
   -- none has ended that an entry not made yet names
   pub unended : (k : ℕ) → length log ≤ k → is_ended log n k ≡ false
 
 module _ (configs : List Config) (n : ℕ) where
   pub stand_first : Stand configs n []
-  stand_first = record { fitting = subst (Each StandsFit) (sym live-none) tt; handshakes = handshakes_first configs n; unended = λ k past. is_ended-none n k }
+  stand_first = record { fitting = subst (Each StandsFit) (sym live-none) tt; handshakes = handshakes_first configs n; running = runs_none; unended = λ k past. is_ended-none n k }
 
   -- what ends was made
   ends_early : (log : List Entry) (ev : Event) (k : ℕ) → length log ≤ k → ends_connection n k log (effect configs log ev) ≡ false
@@ -113,10 +115,9 @@ module _ (configs : List Config) (n : ℕ) where
       by : (b : Bool) → ends_connection n k log (effect configs log ev) ≡ b → b ≡ false
       by false is = refl
       by true is =
-          let over = ending configs log ev n k is in
-          let parts = half_parts log n k over.half (is_live log n k over.half over.lived).at in
+          let made = ends_made configs log ev n k is in
           let none : connections_of log n k ≡ None = connections_of-late log n k past in
-          let clash : ◌≡◌ {A = Option Spawned} None (Some parts.connection) = sym none ∙ parts.made in
+          let clash : ◌≡◌ {A = Option Spawned} None (Some made.0) = sym none ∙ made.1 in
           absurd (cc)
 
   pub stand_more : (log : List Entry) (ev : Event) → Stand configs n log → Stand configs n (log ++ effect configs log ev ∷ [])
@@ -127,6 +128,7 @@ module _ (configs : List Config) (n : ℕ) where
       record {
         fitting = fitting_kept log ev r shape.moves (shape.laws stand.fitting).fitting stand.fitting;
         handshakes = handshakes_more configs n log ev stand.handshakes;
+        running = runs_more configs log ev stand.running;
         unended = λ k past.
             let longer : length (log ++ entry_of ev r ∷ []) ≡ length log + 1 = length-append log (entry_of ev r ∷ []) in
             let early : length log ≤ k = omega (arith, past, longer) in

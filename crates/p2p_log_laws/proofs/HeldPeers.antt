@@ -16,8 +16,8 @@ use Rattle.p2p_log_laws.specs.NodeGrants.{granting}
 use Rattle.p2p_log_laws.proofs.FirstGrants.{Stand, stand_first, stand_more, first_grants}
 use Rattle.p2p_log_laws.proofs.HeldCalls.{held_none}
 use Rattle.p2p_log_rules.proofs.Calls.{calls_of-append}
-use Rattle.p2p_log_laws.proofs.NodeWeighs.{each_weighs}
-use Rattle.p2p_log_laws.proofs.Weighs.{Weighs}
+use Rattle.p2p_log_laws.proofs.NodeWeighs.{each_turns}
+use Rattle.p2p_log_laws.proofs.Weighs.{Turns}
 use Rattle.p2p_log_laws.proofs.Prefixes.{at_end}
 
 -- after a turn a key is held by the grant, or it was held before
@@ -44,9 +44,9 @@ module _ (configs : List Config) (n : ℕ) (key : Key) where
     λ h.
         let r : Row = row configs before ev.at ev.seed ev.act in
         let e : Entry = entry_of ev r in
-        let weighs : Weighs configs n key before ev r = each_weighs configs n key before ev.at ev.seed stand.fitting (first_grants configs n key before stand) (stand.unended (length before) (omega arith)) ev.act in
-        others_next (g.grants before e) (g.frees before e) (calls.is_held key_cmp (calls_of configs before n) key) (is_local key_cmp (rules_at configs n) key) weighs.others others
-        (sym weighs.turn ∙ (ap (λ l. calls.is_held key_cmp l key) (sym (calls_of-append configs before e n)) ∙ h)),
+        let turn : Turns configs n key before ev r = each_turns configs n key before ev.at ev.seed stand.fitting (first_grants configs n key before stand) (stand.unended (length before) (omega arith)) ev.act in
+        others_next (g.grants before e) (g.frees before e) (calls.is_held key_cmp (calls_of configs before n) key) (is_local key_cmp (rules_at configs n) key) turn.others others
+        (sym turn.turn ∙ (ap (λ l. calls.is_held key_cmp l key) (sym (calls_of-append configs before e n)) ∙ h)),
   )
 
 pub held_is_others : (configs : List Config) (script : List Event) (log : List Entry) → IsLawful configs script log → (n : ℕ) (key : Key)

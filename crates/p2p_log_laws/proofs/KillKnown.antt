@@ -40,7 +40,7 @@ use Rattle.p2p_log.proofs.Each.{Has, Has-of_kept}
 use Rattle.p2p_log_rules.specs.declared.row.Row.{Row}
 use Rattle.p2p_log_rules.specs.Connections.{is_ended}
 use Rattle.p2p_log_rules.specs.Effect.{row, effect, entry_of}
-use Rattle.p2p_log_rules.specs.Facts.{is_up, state_from, taken}
+use Rattle.p2p_log_rules.specs.Facts.{is_up, is_stopped, state_from, taken}
 use Rattle.p2p_log_rules.specs.Handshakes.{is_handshaking, source_at}
 use Rattle.p2p_log_rules.specs.Lawful.{IsLawful}
 use Rattle.p2p_log_rules.specs.Rows.{only}
@@ -53,6 +53,7 @@ use Rattle.p2p_log_rules.specs.TrackerRows as rows
 use Rattle.p2p_log_rules.proofs.Calls.{asked_calls, item_calls, step_calls, calls_by, calls_of-append}
 use Rattle.p2p_log_rules.proofs.Moves.{one_taken}
 use Rattle.p2p_log_rules.proofs.Spawning.{connections_of-longer}
+use Rattle.p2p_log_rules.proofs.Channels.{up_lasts}
 use Rattle.p2p_log_laws.proofs.Connecting.{connect_is_reserved}
 use Rattle.p2p_log_laws.proofs.Heeded.{list_any-heeded}
 use Rattle.p2p_log_laws.proofs.HeldCalls.{key_from, at_key}
@@ -169,7 +170,7 @@ module _ (configs : List Config) (n : ℕ) (script : List Event) (log : List Ent
     asked_known (Some (act.Ask (ask.Block k) m)) old = plain_known (call.Block k at) (plain_fit (rules configs n) key (IsMade log n key) (call.Block k at) calls refl refl refl) old
     asked_known _ old = old
 
-    module _ (x : Envelope) (rest : List Envelope) (first : line log (queue.Tracker n) ≡ x ∷ rest) (none_due : puts.is_some_of (due_keys key_cmp (rules configs n) calls at) ≡ false) where
+    module _ (x : Envelope) (rest : List Envelope) (first : line log (queue.Tracker n) ≡ x ∷ rest) (none_due : puts.is_some_of (due_keys key_cmp (rules configs n) calls at) ≡ false) (lasts : is_stopped log n ≡ false) where
       -- a key that may be granted is free, since blocks that have ended are taken away before that
       free_of : (k : Key) → is_eligible key_cmp (rules configs n) calls k at ≡ true → IsFree (rules configs n) k calls
       free_of k eligible =
@@ -210,7 +211,7 @@ module _ (configs : List Config) (n : ℕ) (script : List Event) (log : List Ent
         grants = λ h. absurd (false≢true h);
         connects = λ h.
             let same = same_key k key (and_parts (is_at (key_cmp k) key) (accepts key_cmp (rules configs n) calls key (Some at)) h).0 in
-            subst (λ (q : Key). is_held key_cmp calls q ≡ true) same (connect_is_reserved configs script log lawful n conn k x rest first is).0;
+            subst (λ (q : Key). is_held key_cmp calls q ≡ true) same (connect_is_reserved configs script log lawful n conn k x rest lasts first is).0;
         begins = λ c h.
             let parts = begun_parts (is_at (key_cmp k) key && accepts key_cmp (rules configs n) calls key (Some at)) conn c h in
             let same = same_key k key (and_parts (is_at (key_cmp k) key) (accepts key_cmp (rules configs n) calls key (Some at)) parts.0).0 in
@@ -257,29 +258,29 @@ module _ (configs : List Config) (n : ℕ) (script : List Event) (log : List Ent
           subst (λ is. Has_known (step_calls log reply.Ok is at jitter (list_any grants_peer xs) calls)) (sym (taken_items log ev (rows.tracker_told_row log [] xs) (unblocked_moves log xs)))
           (plain_known (call.UnblockExpired at) (plain_fit (rules configs n) key (IsMade log n key) (call.UnblockExpired at) calls refl refl refl) old)
 
-      served_known : puts.is_some_of (due_keys key_cmp (rules configs n) calls at) ≡ false → (xs : List Envelope) → line log (queue.Tracker n) ≡ xs → After (rows.served_row configs log n at xs)
-      served_known none_due [] first = old
-      served_known none_due (x ∷ rest) first =
+      served_known : is_stopped log n ≡ false → puts.is_some_of (due_keys key_cmp (rules configs n) calls at) ≡ false → (xs : List Envelope) → line log (queue.Tracker n) ≡ xs → After (rows.served_row configs log n at xs)
+      served_known lasts none_due [] first = old
+      served_known lasts none_due (x ∷ rest) first =
           let all : List Put = puts.item_puts (rules configs n) n at us bs calls log x.item in
           let xs : List Put = puts.heeded (is_ended log n) all in
           subst (λ is. Has_known (step_calls log reply.Ok is at jitter (list_any grants_peer xs) calls)) (sym (taken_items log ev (rows.tracker_told_row log (name_of x ∷ []) xs) (served_moves log xs (queue.Tracker n) x rest first)))
           (subst (λ b. Has_known (item_calls log x.item at jitter b calls)) (sym (list_any-heeded (is_ended log n) grants_peer (λ m conn. refl) all))
-          (item_known x rest first none_due jitter x.item refl old))
+          (item_known x rest first none_due lasts jitter x.item refl old))
 
-      step_known : After (rows.tracker_step configs log n at)
-      step_known = by_due (puts.is_some_of (due_keys key_cmp (rules configs n) calls at)) refl
+      step_known : is_stopped log n ≡ false → After (rows.tracker_step configs log n at)
+      step_known lasts = by_due (puts.is_some_of (due_keys key_cmp (rules configs n) calls at)) refl
         where
           by_due : (b : Bool) → puts.is_some_of (due_keys key_cmp (rules configs n) calls at) ≡ b
               → After (cond b (rows.tracker_told_row log [] (puts.unblocked_puts (rules configs n) n at us bs calls (call.UnblockExpired at))) (rows.served_row configs log n at (line log (queue.Tracker n))))
           by_due true is = unblocked_known
-          by_due false is = served_known is (line log (queue.Tracker n)) refl
+          by_due false is = served_known lasts is (line log (queue.Tracker n)) refl
 
       row_known : After (rows.tracker_row configs log n at)
-      row_known = by_up (is_up log n)
+      row_known = by_up (is_up log n) refl
         where
-          by_up : (b : Bool) → After (cond b (rows.tracker_step configs log n at) (only reply.Gone))
-          by_up true = step_known
-          by_up false = old
+          by_up : (b : Bool) → is_up log n ≡ b → After (cond b (rows.tracker_step configs log n at) (only reply.Gone))
+          by_up true up = step_known (up_lasts log n up)
+          by_up false up = old
 
 -- ---- all entries
 

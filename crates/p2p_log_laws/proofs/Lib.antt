@@ -58,6 +58,7 @@ pub mod Flow
 pub mod Following
 pub mod FrameLaw
 pub mod GoingOn
+pub mod Gone
 pub mod Granting
 pub mod HandedSides
 pub mod Halves
@@ -120,6 +121,9 @@ pub mod SpreadDrops
 pub mod Spreading
 pub mod Spreads
 pub mod Stages
+pub mod Running
+pub mod StopLeaves
+pub mod StopShape
 pub mod StandingAttempts
 pub mod Sublists
 pub mod Subscribing

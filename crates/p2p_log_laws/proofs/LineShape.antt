@@ -120,6 +120,12 @@ module _ (configs : List Config) (log : List Entry) (a : Act) (q : Queue) (read 
   unfolding ended_within
   ended_took written took left first puts quiet near = refl
 
+  pub ended_whole : (written : ends_in configs log a q ≡ true) (took left : List Envelope) (first : line log q ≡ took ++ left) (puts : List (Queue × Item)) (quiet : Each IsQuiet puts)
+      (near : Each (λ x. writes configs log a x.0 ≡ true) puts)
+      → (ended_within written took left first puts quiet near).shape.moves.taken ++ (ended_within written took left first puts quiet near).shape.moves.ended ≡ took ++ left
+  unfolding ended_within
+  ended_whole written took left first puts quiet near = refl
+
   -- it takes this, puts these, and goes on
   pub asking_within : (x : Envelope) (rest : List Envelope) → line log q ≡ x ∷ rest → (puts : List (Queue × Item)) → Each IsQuiet puts → Each (λ p. writes configs log a p.0 ≡ true) puts
       → Within configs log a q (record { reply = reply.Ok; takes = name_of x ∷ []; puts = puts; ends = [] })

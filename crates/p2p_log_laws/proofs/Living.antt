@@ -287,11 +287,11 @@ module _ (configs : List Config) (log : List Entry) (ev : Event) (n conn : ℕ) 
   next_made true new was now h = still_made (was refl)
   next_made false new was now h = still_made (now h)
 
-  ends_made : ends_connection n conn log (effect configs log ev) ≡ true → IsMade log n conn
-  ends_made h =
-      let end = ending configs log ev n conn h in
-      let parts = half_parts log n conn end.half (is_live log n conn end.half end.lived).at in
-      (parts.connection, parts.made)
+  pub ends_made : ends_connection n conn log (effect configs log ev) ≡ true → IsMade log n conn
+  ends_made h = elim (ending configs log ev n conn h) [
+    | inl end ↦ let parts = half_parts log n conn end.half (is_live log n conn end.half end.lived).at in (parts.connection, parts.made)
+    | inr over ↦ (over.connection, over.made)
+  ]
 
   begins_made : begins n conn log (effect configs log ev) ≡ true → IsMade log n conn
   unfolding effect

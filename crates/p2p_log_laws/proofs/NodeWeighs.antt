@@ -26,7 +26,7 @@ use Rattle.p2p_log.specs.Lines.{ended_item, live, line}
 use Rattle.p2p_log.proofs.Each.{Each-weaker}
 use Rattle.p2p_log_rules.specs.declared.row.Row.{Row}
 use Rattle.p2p_log_rules.specs.Attempting.{Attempt, DialRules, dial_rules_at, attempts_of, attempt_turn, attempt_by, attempt_row, resolve_row, refuse_row, connect_row}
-use Rattle.p2p_log_rules.proofs.Connections.{EndsNone, ends_half, ends_untold}
+use Rattle.p2p_log_rules.proofs.Connections.{EndsNone, may_end, ends_half, ends_untold, ends_none-act}
 use Rattle.p2p_log_rules.specs.Tellings.{Telling, last_or}
 use Rattle.p2p_log_rules.specs.Told.{asks_list, took_tells, tells, told}
 use Rattle.p2p_log_rules.specs.Tracked.{called_tells}
@@ -45,9 +45,10 @@ use Rattle.p2p_log_rules.specs.Connections.{half_at, is_ended}
 use Rattle.p2p_log_rules.specs.Dropping.{dialing_end, arriving_end, attempt_step_row, handshake_step_row}
 use Rattle.p2p_log_rules.specs.Puts.{gave_up, ends_attempt, broke_off, turns_away}
 use Rattle.p2p_log_rules.specs.Effect.{effect, entry_of, row, send_step_row, recv_step_row}
-use Rattle.p2p_log_rules.specs.Facts.{item_named, taken}
+use Rattle.p2p_base.specs.declared.outcome.Feedback.TheVariants as feedback
+use Rattle.p2p_log_rules.specs.Facts.{stops, is_stopped, item_named, taken}
 use Rattle.p2p_log_rules.specs.Moves.{Moves}
-use Rattle.p2p_log_rules.specs.Rows.{only, is_spawner_full}
+use Rattle.p2p_log_rules.specs.Rows.{only, mailbox_size_at, is_spawner_full}
 use Rattle.p2p_log_rules.specs.Spawning.{spawned_of, spawner_row}
 use Rattle.p2p_log_rules.specs.Tracking.{key_cmp, rules_at, asked_by, grants_peer, calls_of}
 use Rattle.p2p_log_rules.proofs.Calls.{step_calls}
@@ -66,12 +67,14 @@ use Rattle.p2p_log_laws.proofs.DialerGrants.{begins_held, Hand, dialer_hands}
 use Rattle.p2p_log_laws.proofs.FinishShape.{finish_plain}
 use Rattle.p2p_log_laws.proofs.Fitting.{StandsFit}
 use Rattle.p2p_log_laws.proofs.HandshakeGrants.{GrantsFirst, Hands, nothing, turn_hands}
-use Rattle.p2p_log_laws.proofs.Plain.{IsAside, Away, Plain, StandsPlain, away_aside, connection_away, plain_aside, plain_item, stand_aside, no_grants, no_releases, no_grants_stand, no_releases_stand}
+use Rattle.p2p_log_laws.proofs.Plain.{IsAside, Away, Plain, StandsPlain, away_aside, connection_away, plain_aside, plain_item, stand_aside, plain_out_of_reach, no_grants, no_releases, no_grants_stand, no_releases_stand}
 use Rattle.p2p_log_laws.proofs.HandshakeShape.{handshake_shape}
 use Rattle.p2p_log_laws.proofs.ReceiverShape.{recv_step_shape}
 use Rattle.p2p_log_laws.proofs.Shape.{Shape, no_moves}
 use Rattle.p2p_log_laws.proofs.ListenerShape.{listener_aside, listener_shape}
+use Rattle.p2p_log_rules.specs.Stopping.{stop_row}
 use Rattle.p2p_log_laws.proofs.Shapes.{row_shape}
+use Rattle.p2p_log_laws.proofs.StopShape.{stop_shape}
 use Rattle.p2p_log_laws.proofs.HalfSteps.{send_is, receive_is}
 use Rattle.p2p_log_laws.proofs.SpawnerGrants.{Made, spawner_makes}
 use Rattle.p2p_log_laws.proofs.TrackerGrants.{Step, tracker_steps}
@@ -163,8 +166,22 @@ module _ (configs : List Config) (n : ℕ) (key : Key) (log : List Entry) where
         weighs.plain_weighs configs n key log (event at seed a) r still makes (λ k. ends_untold log (entry_of (event at seed a) r) n k a refl none) (no_moves log r takes (ap (flat_map ended_item) ends)) (record { taken = tt; ended = tt; puts = puts }) kept
 
     asked_weighs : (what : Asked) (m : ℕ) → Weighs (event at seed (act.Ask what m)) (rows.asked_row configs log m)
-    asked_weighs what m =
-        asks (act.Ask what m) (rows.asked_row configs log m) refl refl refl refl refl (plain_item n key (queue.Tracker m) (item.Call (length log)) refl refl, tt) (untried (act.Ask what m) (rows.asked_row configs log m) refl)
+    asked_weighs what m = by (is_stopped log m)
+      where
+        due : Row
+        due = record {
+          reply = reply.Feedback (rows.feedback_by (mailbox_size_at configs m) (line log (queue.Tracker m)));
+          takes = [];
+          puts = (queue.Tracker m, item.Call (length log)) ∷ [];
+          ends = [];
+        }
+
+        closed : Row
+        closed = only (reply.Feedback feedback.Closed)
+
+        by : (b : Bool) → Weighs (event at seed (act.Ask what m)) (cond b closed due)
+        by true = asks (act.Ask what m) closed refl refl refl refl refl tt (untried (act.Ask what m) closed refl)
+        by false = asks (act.Ask what m) due refl refl refl refl refl (plain_item n key (queue.Tracker m) (item.Call (length log)) refl refl, tt) (untried (act.Ask what m) due refl)
 
     ask_weighs : (what : Asked) (m : ℕ) → Weighs (event at seed (act.Ask what m)) (rows.ask_row configs log m what)
     ask_weighs (ask.Track index peers) m = by_size (nat_lt (rows.most_peers_at configs m) (rows.size_at configs m peers))
@@ -402,45 +419,75 @@ module _ (configs : List Config) (n : ℕ) (key : Key) (log : List Entry) where
         (record { dialer = refl; handshakes = λ h. refl; spawner = ap (λ b. b && true) differ; tracker = refl })
         (record { dialer = refl; handshakes = λ h. refl; spawner = refl; tracker = refl }) refl differ refl (untried (act.Spawner m) (spawner_row log m) refl)
 
-    pub each_weighs : Each StandsFit (live log) → ((h : ℕ) → GrantsFirst n key log h) → is_ended log n (length log) ≡ false → (a : Act) → Weighs (event at seed a) (row configs log at seed a)
+    -- the stop of another node
+    stop_weighs : (by_start : Bool) (m : ℕ) → (m == n) ≡ false → Weighs (event at seed (act.Stop by_start m)) (stop_row log m)
+    stop_weighs by_start m differ =
+        let a : Act = act.Stop by_start m in
+        let r : Row = stop_row log m in
+        let shape : Shape configs log a r = stop_shape configs log by_start m in
+        weighs.plain_weighs configs n key log (event at seed a) r refl refl (λ k. ends_none-act log (entry_of (event at seed a) r) n k a refl (differs n k by_start m differ)) shape.moves
+        (plain_out_of_reach n key configs a log r shape.moves shape.reach differ (nowhere n) (nowhere n)) (untried a r differ)
+      where
+        differs : (n k : ℕ) (by_start : Bool) (m : ℕ) → (m == n) ≡ false → may_end n k (act.Stop by_start m) ≡ false
+        differs n k by_start m h = h
+
+    -- unless the node stops
+    pub each_weighs : Each StandsFit (live log) → ((h : ℕ) → GrantsFirst n key log h) → is_ended log n (length log) ≡ false → (a : Act) → stops n a ≡ false → Weighs (event at seed a) (row configs log at seed a)
     unfolding row
-    each_weighs fitting first unended (act.SendStep conn m) = sender_weighs conn m
-    each_weighs fitting first unended (act.RecvStep conn m) = receiver_weighs conn m
-    each_weighs fitting first unended (act.Ask what m) = ask_weighs what m
-    each_weighs fitting first unended (act.Answer e) =
+    each_weighs fitting first unended (act.Stop by_start m) goes_on = stop_weighs by_start m goes_on
+    each_weighs fitting first unended (act.SendStep conn m) goes_on = sender_weighs conn m
+    each_weighs fitting first unended (act.RecvStep conn m) goes_on = receiver_weighs conn m
+    each_weighs fitting first unended (act.Ask what m) goes_on = ask_weighs what m
+    each_weighs fitting first unended (act.Answer e) goes_on =
         weighs.other configs n key log at seed (act.Answer e) (rows.answer_row log e) (row_shape configs log at seed (act.Answer e)) (told_aside (asked_by log e) e n) (nowhere n) refl refl refl (untried (act.Answer e) (rows.answer_row log e) refl)
-    each_weighs fitting first unended (act.Next e) =
+    each_weighs fitting first unended (act.Next e) goes_on =
         weighs.other configs n key log at seed (act.Next e) (rows.next_row log e) (row_shape configs log at seed (act.Next e)) (told_aside (asked_by log e) e n) (nowhere n) refl refl refl (untried (act.Next e) (rows.next_row log e) refl)
-    each_weighs fitting first unended (act.Tracker m) = tracker_at m (m == n) refl
-    each_weighs fitting first unended (act.Dialer m) = dialer_at m (m == n) refl
-    each_weighs fitting first unended (act.Spawner m) = spawner_at m (m == n) refl fitting unended
-    each_weighs fitting first unended (act.Attempt i m) = attempt_at i m (m == n) refl
-    each_weighs fitting first unended (act.Handshake i m) = handshake_at i m (m == n) refl (first i)
-    each_weighs fitting first unended (act.Finish link ok) = finish_weighs link ok
-    each_weighs fitting first unended (act.Listener m) =
+    each_weighs fitting first unended (act.Tracker m) goes_on = tracker_at m (m == n) refl
+    each_weighs fitting first unended (act.Dialer m) goes_on = dialer_at m (m == n) refl
+    each_weighs fitting first unended (act.Spawner m) goes_on = spawner_at m (m == n) refl fitting unended
+    each_weighs fitting first unended (act.Attempt i m) goes_on = attempt_at i m (m == n) refl
+    each_weighs fitting first unended (act.Handshake i m) goes_on = handshake_at i m (m == n) refl (first i)
+    each_weighs fitting first unended (act.Finish link ok) goes_on = finish_weighs link ok
+    each_weighs fitting first unended (act.Listener m) goes_on =
         let aside = (listener_aside configs log m at).plain n key in
         let r : Row = listener_row configs log m at in
         let ev : Event = event at seed (act.Listener m) in
         weighs.dropped_weighs configs n key log at seed ev r (cond (turns_away r.reply) (arriving_end log m) None)
         (weighs.plain_weighs configs n key log ev r refl refl (λ k. ends_untold log (entry_of ev r) n k (act.Listener m) refl refl) aside.0 aside.1 (untried (act.Listener m) r refl)) (listener_shape configs log m at).moves
-    each_weighs fitting first unended (act.Resolve addresses i m) =
+    each_weighs fitting first unended (act.Resolve addresses i m) goes_on =
         let r : Row = resolve_row configs log addresses i m in
         weighs.other configs n key log at seed (act.Resolve addresses i m) r (row_shape configs log at seed (act.Resolve addresses i m)) (record { dialer = refl; handshakes = λ h. refl; spawner = refl; tracker = refl })
         (record { dialer = refl; handshakes = λ h. refl; spawner = refl; tracker = refl }) refl refl refl
         (only_told (act.Resolve addresses i m) r refl)
-    each_weighs fitting first unended (act.Connect i from m to) =
+    each_weighs fitting first unended (act.Connect i from m to) goes_on =
         let r : Row = connect_row configs log i from m to in
         weighs.other configs n key log at seed (act.Connect i from m to) r (row_shape configs log at seed (act.Connect i from m to)) (record { dialer = refl; handshakes = λ h. refl; spawner = refl; tracker = refl })
         (record { dialer = refl; handshakes = λ h. refl; spawner = refl; tracker = refl }) refl refl refl
         (only_told (act.Connect i from m to) r refl)
-    each_weighs fitting first unended (act.Refuse i m) =
+    each_weighs fitting first unended (act.Refuse i m) goes_on =
         let r : Row = refuse_row configs log i m in
         weighs.other configs n key log at seed (act.Refuse i m) r (row_shape configs log at seed (act.Refuse i m)) (record { dialer = refl; handshakes = λ h. refl; spawner = refl; tracker = refl })
         (record { dialer = refl; handshakes = λ h. refl; spawner = refl; tracker = refl }) refl refl refl
         (only_told (act.Refuse i m) r refl)
-    each_weighs fitting first unended a =
+    each_weighs fitting first unended a goes_on =
         weighs.other configs n key log at seed a (row configs log at seed a) (row_shape configs log at seed a) (record { dialer = refl; handshakes = λ h. refl; spawner = refl; tracker = refl })
         (record { dialer = refl; handshakes = λ h. refl; spawner = refl; tracker = refl }) refl refl refl (untried a (row configs log at seed a) refl)
+
+-- and a stop makes no turn
+pub each_turns : (configs : List Config) (n : ℕ) (key : Key) (log : List Entry) (at seed : ℕ) → Each StandsFit (live log) → ((h : ℕ) → GrantsFirst n key log h) → is_ended log n (length log) ≡ false → (a : Act)
+    → weighs.Turns configs n key log (record { at = at; seed = seed; act = a }) (row configs log at seed a)
+each_turns configs n key log at seed fitting first unended a = by (stops n a) refl
+  where
+    ev : Event
+    ev = record { at = at; seed = seed; act = a }
+
+    by : (b : Bool) → stops n a ≡ b → weighs.Turns configs n key log ev (row configs log at seed a)
+    by false goes_on = weighs.weighs_turns configs n key log ev (row configs log at seed a) (each_weighs configs n key log at seed fitting first unended a goes_on)
+    by true stops_it = weighs.still_turns configs n key log ev (row configs log at seed a) (aside a stops_it)
+      where
+        aside : (a : Act) → stops n a ≡ true → steps_tracker n a ≡ false
+        aside (act.Stop by_start m) h = refl
+        aside _ h = absurd (false≢true h)
 
 abbrev IsGrantPut : List Config → List Entry → Event → ℕ → Key → Act → Type 0
 IsGrantPut configs log ev n key a =

@@ -23,8 +23,10 @@ use Rattle.p2p_log.specs.declared.event.Act.{Act}
 use Rattle.p2p_log.specs.declared.event.Act.TheVariants as act
 use Rattle.p2p_log.specs.declared.event.Event.{Event}
 use Rattle.p2p_log.specs.QueueCode.{same_queue}
-use Rattle.p2p_log.specs.Lines.{name_of, stays, live_from, live, line}
-use Rattle.p2p_log.proofs.Each.{count_by-none}
+use Rattle.p2p_log.specs.Lines.{name_of, stays, stands_in, live_from, live, line}
+use Rattle.p2p_log.proofs.Each.{Each-from_has, count_by-none}
+use Rattle.p2p_log_rules.proofs.Channels.{IsStopOf, stops_or_not}
+use Rattle.p2p_log_laws.proofs.StopLeaves.{stop_empties, none_passes}
 use Rattle.p2p_log.proofs.Names.{AreApart-live_from}
 use Rattle.p2p_log.proofs.Queues.{same_queue-refl}
 use Rattle.p2p_log.proofs.Taken.{sum_by-taken}
@@ -38,7 +40,7 @@ use Rattle.p2p_log_rules.specs.Handshaking.{handshake_deadline, exchanged_row, h
 use Rattle.p2p_log_rules.specs.Moves.{Moves}
 use Rattle.p2p_log_rules.specs.Rows.{only, is_spawner_full}
 use Rattle.p2p_log_rules.proofs.HandshakeEnds.{among_more}
-use Rattle.p2p_log_rules.proofs.Handshakes.{without_name, Begins, Ends, handshakes_of-shaken, handshakes_now, is_among, among-without}
+use Rattle.p2p_log_rules.proofs.Handshakes.{without_name, Begins, Ends, Stops, handshakes_of-shaken, handshakes_now, is_among, among-without}
 use Rattle.p2p_log_rules.proofs.HandshakeTook.{IsOther, step_or_other, has_taken-step, has_taken-other}
 use Rattle.p2p_log_rules.proofs.Moves.{one_taken}
 use Rattle.p2p_log_laws.specs.Grants.{one}
@@ -168,24 +170,36 @@ module _ (configs : List Config) (n name : ℕ) where
       finished_kept : is_finished (log ++ e ∷ []) n name ≡ is_finished log n name
       finished_kept = has_taken-other takes_exchange log e n name other
 
-      runs_on : is_handshaking log n name ≡ true → (handshakes_of (log ++ e ∷ []) n ≡ handshakes_of log n) ⊎ (Begins log e n ⊎ Ends log e n) → is_handshaking (log ++ e ∷ []) n name ≡ true
-      runs_on runs (inl same) = ap (is_among name) same ∙ runs
-      runs_on runs (inr (inl begins)) = ap (is_among name) begins.now ∙ among_more name (length log) (handshakes_of log n) runs
-      runs_on runs (inr (inr ends)) =
+      runs_on : is_handshaking log n name ≡ true → (handshakes_of (log ++ e ∷ []) n ≡ handshakes_of log n) ⊎ (Begins log e n ⊎ (Ends log e n ⊎ Stops log e n)) → (IsStopOf log e n → ⊥) → is_handshaking (log ++ e ∷ []) n name ≡ true
+      runs_on runs (inl same) goes = ap (is_among name) same ∙ runs
+      runs_on runs (inr (inl begins)) goes = ap (is_among name) begins.now ∙ among_more name (length log) (handshakes_of log n) runs
+      runs_on runs (inr (inr (inr stops))) goes = absurd (goes stops.stop)
+      runs_on runs (inr (inr (inl ends))) goes =
           ap (is_among name) ends.now ∙ (among-without ends.name name (handshakes_of log n) ∙ (ap (λ b. not b && is_handshaking log n name) (apart (name == ends.name) refl) ∙ runs))
         where
           apart : (b : Bool) → (name == ends.name) ≡ b → (name == ends.name) ≡ false
           apart true is = absurd (other (ends.acts ∙ ap (λ k. act.Handshake k n) (sym (eqb-true name ends.name is))))
           apart false is = is
 
-      kept : goes_on log ≡ true → goes_on (log ++ e ∷ []) ≡ true
-      kept h =
+      kept : (IsStopOf log e n → ⊥) → goes_on log ≡ true → goes_on (log ++ e ∷ []) ≡ true
+      kept goes h =
           let both = and_parts (is_handshaking log n name) (is_finished log n name) h in
-          let running : is_handshaking (log ++ e ∷ []) n name ≡ true = runs_on both.0 (handshakes_now log e n) in
+          let running : is_handshaking (log ++ e ∷ []) n name ≡ true = runs_on both.0 (handshakes_now log e n) goes in
           ap (λ b. b && is_finished (log ++ e ∷ []) n name) running ∙ (finished_kept ∙ both.1)
 
-      other_asked : Asked log → Asked (log ++ e ∷ [])
-      other_asked h =
+      -- where its node stops, nobody asks any more
+      stop_asked : IsStopOf log e n → Asked (log ++ e ∷ [])
+      unfolding effect
+      stop_asked stop =
+          let empty : line (log ++ e ∷ []) (queue.Tracker n) ≡ [] = stop_empties configs log ev n stop (queue.Tracker n) (inr (inl refl)) in
+          none_asked (waiting_asked n name (log ++ e ∷ [])) (one (not (goes_on (log ++ e ∷ []))))
+          (none_passes (is_asked n name) (log ++ e ∷ [])
+          (Each-from_has (λ x. is_asked n name (put_of x) ≡ true → (q : Queue) × (stands_in q x ≡ true) × (line (log ++ e ∷ []) q ≡ [])) (live (log ++ e ∷ []))
+          (λ x has is. (queue.Tracker n, (and_parts (same_queue (queue.Tracker n) x.queue) (asks_for n name x.item) is).0, empty))))
+          (at_most (not (goes_on (log ++ e ∷ []))))
+
+      goes_asked : (IsStopOf log e n → ⊥) → Asked log → Asked (log ++ e ∷ [])
+      goes_asked goes h =
           let m : Moves log r = (row_shape configs log ev.at ev.seed ev.act).moves in
           less (waiting_asked n name (log ++ e ∷ [])) (weight (is_asked n name) m.taken + weight (is_asked n name) m.ended) (waiting_asked n name log) (count_by (is_asked n name) r.puts)
           (one (not (goes_on (log ++ e ∷ [])))) (one (not (goes_on log))) (weighed log ev r m (is_asked n name))
@@ -195,8 +209,11 @@ module _ (configs : List Config) (n name : ℕ) where
           less now gone old more a b moved none le before = omega (arith, moved, none, le, before)
 
           by : (b : Bool) → goes_on log ≡ b → one (not (goes_on (log ++ e ∷ []))) ≤ one (not (goes_on log))
-          by true is = subst (λ c. one (not c) ≤ one (not (goes_on log))) (sym (kept is)) (omega arith)
+          by true is = subst (λ c. one (not c) ≤ one (not (goes_on log))) (sym (kept goes is)) (omega arith)
           by false is = subst (λ c. one (not (goes_on (log ++ e ∷ []))) ≤ one (not c)) (sym is) (at_most (not (goes_on (log ++ e ∷ []))))
+
+      other_asked : Asked log → Asked (log ++ e ∷ [])
+      other_asked h = elim (stops_or_not log e n) [ inl stop ↦ stop_asked stop | inr goes ↦ goes_asked goes h ]
 
   -- ---- its own step
 

@@ -8,6 +8,7 @@ use Rattle.p2p_base.specs.declared.key.Key.{Key}
 use Rattle.p2p_log.specs.declared.config.Config.{Config}
 use Rattle.p2p_log.specs.declared.queue.Queue.{Queue}
 use Rattle.p2p_log.specs.declared.queue.Queue.TheVariants as queue
+use Rattle.p2p_log.specs.declared.queue.Side.{Side}
 use Rattle.p2p_log.specs.declared.queue.Side.TheVariants as side
 use Rattle.p2p_log.specs.declared.item.Item.{Item}
 use Rattle.p2p_log.specs.declared.item.Envelope.{Envelope}
@@ -23,6 +24,9 @@ use Rattle.p2p_log_rules.specs.Connections.{half_at}
 use Rattle.p2p_log_rules.specs.Dropping.{LinkEnd, dialing_end, arriving_end, half_end}
 use Rattle.p2p_log_rules.specs.Handshakes.{peer_at}
 use Rattle.p2p_log_rules.specs.Moves.{Moves}
+use Rattle.p2p_log_rules.specs.Facts.{stops}
+use Rattle.p2p_log_rules.specs.Stopping.{emptied_at}
+use Rattle.p2p_log_rules.proofs.Emptied.{OfKinds, each_emptied}
 use Rattle.p2p_log_rules.proofs.Touches.{away}
 use Rattle.p2p_log_laws.proofs.Reaching.{in_flight, in_connection, in_flight-node, in_flight-handshake, Reach, reads, writes, ends_in}
 use Rattle.p2p_log_laws.specs.NodeGrants.{put_of, holds_grants, grants_key, releases_key, puts_grant, puts_release}
@@ -64,13 +68,106 @@ flying_away n o = let each = in_flight-node o n in record { dialer = each.1.0; h
 pub connection_away : (n : ℕ) (o : Option Half) (m conn : ℕ) → Away n (in_connection o m conn)
 connection_away n o m conn = let far = flying_away n (half_end o) in record { dialer = far.dialer; handshakes = far.handshakes; spawner = far.spawner; tracker = far.tracker }
 
--- what an act puts in none of them, and takes from none, it ends in none
-pub ends_away : (configs : List Config) (log : List Entry) (n : ℕ) (a : Act) → Away n (writes configs log a) → Away n (ends_in configs log a)
-ends_away configs log n (act.SendStep conn m) written = connection_away n (half_at log m conn) m conn
-ends_away configs log n (act.RecvStep conn m) written = connection_away n (half_at log m conn) m conn
-ends_away configs log n (act.Attempt e m) written =
+-- nor what ends with another node
+emptied_away : (log : List Entry) (m : ℕ) (q : Queue) → OfKinds m (λ p. same_queue p q ≡ false) → list_any (λ p. same_queue p q) (emptied_at log m) ≡ false
+emptied_away log m q kinds = none (emptied_at log m) (each_emptied log m (λ p. same_queue p q ≡ false) kinds)
+  where
+    none : (ps : List Queue) → Each (λ p. same_queue p q ≡ false) ps → list_any (λ p. same_queue p q) ps ≡ false
+    none [] h = refl
+    none (p ∷ ps) h = ap (λ b. b || list_any (λ r. same_queue r q) ps) h.0 ∙ none ps h.1
+
+node_away : (log : List Entry) (n m : ℕ) → (m == n) ≡ false → Away n (λ q. list_any (λ p. same_queue p q) (emptied_at log m))
+node_away log n m differ = record {
+  dialer = emptied_away log m (queue.Dialer n) (record {
+    router = refl;
+    tracker = refl;
+    spawner = refl;
+    arrivals = refl;
+    update = refl;
+    dialer = ap (λ b. b && true) differ;
+    attempt = λ k. refl;
+    handshake = λ h. refl;
+    high = λ c. refl;
+    low = λ c. refl;
+    held = λ c. refl;
+    control = λ c. refl;
+    ready = λ c. refl;
+    link = no_dialer;
+  });
+  handshakes = λ h. emptied_away log m (queue.Handshake n h) (record {
+    router = refl;
+    tracker = refl;
+    spawner = refl;
+    arrivals = refl;
+    update = refl;
+    dialer = refl;
+    attempt = λ k. refl;
+    handshake = λ i. ap (λ b. b && (i == h)) differ;
+    high = λ c. refl;
+    low = λ c. refl;
+    held = λ c. refl;
+    control = λ c. refl;
+    ready = λ c. refl;
+    link = no_handshake h;
+  });
+  spawner = emptied_away log m (queue.Spawner n) (record {
+    router = refl;
+    tracker = refl;
+    spawner = ap (λ b. b && true) differ;
+    arrivals = refl;
+    update = refl;
+    dialer = refl;
+    attempt = λ k. refl;
+    handshake = λ h. refl;
+    high = λ c. refl;
+    low = λ c. refl;
+    held = λ c. refl;
+    control = λ c. refl;
+    ready = λ c. refl;
+    link = no_spawner;
+  });
+  tracker = emptied_away log m (queue.Tracker n) (record {
+    router = refl;
+    tracker = ap (λ b. b && true) differ;
+    spawner = refl;
+    arrivals = refl;
+    update = refl;
+    dialer = refl;
+    attempt = λ k. refl;
+    handshake = λ h. refl;
+    high = λ c. refl;
+    low = λ c. refl;
+    held = λ c. refl;
+    control = λ c. refl;
+    ready = λ c. refl;
+    link = no_tracker;
+  });
+}
+  where
+    no_dialer : (l : ℕ) (s : Side) → same_queue (queue.Link l s) (queue.Dialer n) ≡ false
+    no_dialer l side.Out = refl
+    no_dialer l side.In = refl
+
+    no_handshake : (h l : ℕ) (s : Side) → same_queue (queue.Link l s) (queue.Handshake n h) ≡ false
+    no_handshake h l side.Out = refl
+    no_handshake h l side.In = refl
+
+    no_spawner : (l : ℕ) (s : Side) → same_queue (queue.Link l s) (queue.Spawner n) ≡ false
+    no_spawner l side.Out = refl
+    no_spawner l side.In = refl
+
+    no_tracker : (l : ℕ) (s : Side) → same_queue (queue.Link l s) (queue.Tracker n) ≡ false
+    no_tracker l side.Out = refl
+    no_tracker l side.In = refl
+
+-- what an act puts in none of them, and takes from none, it ends in none, unless it stops the node
+pub ends_away : (configs : List Config) (log : List Entry) (n : ℕ) (a : Act) → stops n a ≡ false → Away n (writes configs log a) → Away n (ends_in configs log a)
+ends_away configs log n (act.Stop by_start m) goes_on written = node_away log n m goes_on
+ends_away configs log n (act.SendStep conn m) goes_on written = connection_away n (half_at log m conn) m conn
+ends_away configs log n (act.RecvStep conn m) goes_on written = connection_away n (half_at log m conn) m conn
+ends_away configs log n (act.Attempt e m) goes_on written =
     let far = flying_away n (dialing_end log m e) in record { dialer = far.dialer; handshakes = far.handshakes; spawner = far.spawner; tracker = far.tracker }
-ends_away configs log n (act.Handshake e m) written =
+ends_away configs log n (act.Handshake e m) goes_on written =
     let over : Option LinkEnd = Some ((peer_at log e).link, side.In) in
     let far = flying_away n over in
     record {
@@ -79,9 +176,9 @@ ends_away configs log n (act.Handshake e m) written =
       spawner = far.spawner;
       tracker = far.tracker;
     }
-ends_away configs log n (act.Listener m) written =
+ends_away configs log n (act.Listener m) goes_on written =
     let far = flying_away n (arriving_end log m) in record { dialer = far.dialer; handshakes = far.handshakes; spawner = far.spawner; tracker = far.tracker }
-ends_away configs log n a written = written
+ends_away configs log n a goes_on written = written
 
 module _ (n : ℕ) (key : Key) where
   abbrev pub Plain : Queue × Item → Type 0
@@ -128,9 +225,9 @@ module _ (n : ℕ) (key : Key) where
 
   -- as where its act reaches neither of their queues
   pub plain_out_of_reach : (configs : List Config) (a : Act) (log : List Entry) (r : Row) (m : Moves log r) → Reach configs a log r m
-      → Away n (reads configs log a) → Away n (writes configs log a) → IsPlain log r m
-  plain_out_of_reach configs a log r m reach read written = record {
+      → stops n a ≡ false → Away n (reads configs log a) → Away n (writes configs log a) → IsPlain log r m
+  plain_out_of_reach configs a log r m reach goes_on read written = record {
     taken = stand_aside m.taken (Each-weaker (λ x. reads configs log a x.queue ≡ true) (λ x. IsAside n x.queue) (λ x k. away_aside n (reads configs log a) read x.queue k) m.taken reach.taken);
-    ended = stand_aside m.ended (Each-weaker (λ x. ends_in configs log a x.queue ≡ true) (λ x. IsAside n x.queue) (λ x k. away_aside n (ends_in configs log a) (ends_away configs log n a written) x.queue k) m.ended reach.ended);
+    ended = stand_aside m.ended (Each-weaker (λ x. ends_in configs log a x.queue ≡ true) (λ x. IsAside n x.queue) (λ x k. away_aside n (ends_in configs log a) (ends_away configs log n a goes_on written) x.queue k) m.ended reach.ended);
     puts = Each-weaker (λ x. writes configs log a x.0 ≡ true) Plain (λ x k. plain_aside x.0 x.1 (away_aside n (writes configs log a) written x.0 k)) r.puts reach.puts;
   }

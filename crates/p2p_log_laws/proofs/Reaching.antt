@@ -1,7 +1,7 @@
 -- Which queues an act reaches: from which it takes, in which it puts something, and in which it ends something.
 use Rattle.std.proofs.Common.{◌≡◌, ℕ, Bool, true, false, List, [], ◌∷◌, ◌++◌, Option, Some, None, refl}
 use Rattle.std.specs.Prelude.{◌==◌, ◌&&◌, ◌||◌}
-use Rattle.std.specs.List.{AllByRecursion as Each}
+use Rattle.std.specs.List.{list_any, AllByRecursion as Each}
 use Rattle.p2p_log.specs.declared.config.Config.{Config}
 use Rattle.p2p_log.specs.declared.queue.Queue.{Queue}
 use Rattle.p2p_log.specs.declared.queue.Queue.TheVariants as queue
@@ -21,6 +21,7 @@ use Rattle.p2p_log_rules.specs.Dropping.{LinkEnd, other_side, dialing_end, arriv
 use Rattle.p2p_log_rules.specs.Effect.{entry_of, goes_to}
 use Rattle.p2p_log_rules.specs.Handshakes.{peer_at}
 use Rattle.p2p_log_rules.specs.Moves.{Moves}
+use Rattle.p2p_log_rules.specs.Stopping.{emptied_at}
 use Rattle.p2p_log_rules.proofs.Moves.{line-left}
 use Rattle.p2p_log_rules.proofs.Touches as touches
 use Rattle.p2p_log_rules.proofs.Touches.{in_mailboxes, away}
@@ -61,6 +62,7 @@ ends_in configs log (act.RecvStep conn n) q = in_connection (half_at log n conn)
 ends_in configs log (act.Attempt e n) q = same_queue (queue.Attempt n e) q || in_flight (dialing_end log n e) q
 ends_in configs log (act.Handshake e n) q = same_queue (queue.Handshake n e) q || in_flight (Some ((peer_at log e).link, side.In)) q
 ends_in configs log (act.Listener n) q = in_flight (arriving_end log n) q
+ends_in configs log (act.Stop by_start n) q = list_any (λ p. same_queue p q) (emptied_at log n)
 ends_in configs log a q = touches.writes configs log a q
 
 -- a row stays within its act's reach

@@ -8,12 +8,13 @@ use Rattle.p2p_base.specs.declared.key.Key.{Key}
 use Rattle.p2p_log.specs.declared.config.Config.{Config}
 use Rattle.p2p_log.specs.declared.entry.Entry.{Entry}
 use Rattle.p2p_log.specs.declared.event.Event.{Event}
+use Rattle.p2p_log.specs.declared.item.Envelope.{Envelope}
 use Rattle.p2p_log.specs.Lines.{goes, stays, live, placed}
 use Rattle.p2p_log.proofs.Lines.{live-append}
 use Rattle.p2p_log_rules.specs.Effect.{effect}
 use Rattle.p2p_log_rules.specs.Lawful.{IsLawful}
-use Rattle.p2p_log_laws.specs.Grants.{one, Granting, is_held, is_stopped, Hands, Halts}
-use Rattle.p2p_log_laws.specs.NodeGrants.{put_of, puts_grant, beginners_of, holders_of, granting}
+use Rattle.p2p_log_laws.specs.Grants.{one, Granting, is_held, is_stopped, Hands, Halts, EachIsTurn}
+use Rattle.p2p_log_laws.specs.NodeGrants.{put_of, puts_grant, puts_release, beginners_of, holders_of, waiting_of, granting}
 use Rattle.p2p_log_laws.specs.Releasing.{EndsItsHolder, IsReleasedAsItEnds, EachIsReleasedAsItEnds}
 use Rattle.p2p_log_laws.proofs.NodeGrants.{each_node_turn}
 use Rattle.p2p_log_laws.proofs.Turns.{one_holder_at}
@@ -83,21 +84,44 @@ module _ (configs : List Config) (n : ℕ) (key : Key) (before : List Entry) (ev
 
 module _ (configs : List Config) (script : List Event) (log : List Entry) (lawful : IsLawful configs script log) where
   pub each_is_released_as_it_ends : EachIsReleasedAsItEnds configs log
-  each_is_released_as_it_ends k n key e here =
-      let g : Granting = granting configs n key in
-      let before : List Entry = take k log in
-      let due = entry_due configs script log lawful k e here in
-      let turns = each_node_turn configs script log lawful n key in
-      let hands : Hands g before e = by_hands n key e (take k log) (turns.each k e here).hands in
-      let holds = one_holder_at g log turns k in
-      record {
-        ended = λ ends.
-            ended configs n key before due.0 (g.grants before e) (is_stopped g before) (is_held g before) (g.holders before) (g.waiting before) (g.holders (before ++ e ∷ [])) (g.released before e)
-            hands.holding hands.free holds ends.0 ends.1;
-        alone = λ put.
-            alone configs n key before due.0 (g.grants before e) (is_stopped g before) (is_held g before) (g.holders before) (g.waiting before) (g.holders (before ++ e ∷ [])) (g.released before e)
-            hands.holding (subst (λ d. (granting configs n key).grants before d ≡ true → 1 ≤ holders_of n key configs (before ++ d ∷ [])) (sym due.1) (granted_holds configs n key before due.0)) hands.free holds put;
-      }
+  each_is_released_as_it_ends k n key e here = elim (turns.each k e here).hands [ inl hands ↦ by_hands hands | inr halts ↦ by_halt halts ]
     where
-      by_hands : (n : ℕ) (key : Key) (e : Entry) (before : List Entry) → Hands (granting configs n key) before e ⊎ Halts (granting configs n key) before e → Hands (granting configs n key) before e
-      by_hands n key e before h = elim h [ inl hands ↦ hands | inr halts ↦ absurd (false≢true halts.stops) ]
+      g : Granting
+      g = granting configs n key
+
+      before : List Entry
+      before = take k log
+
+      due : (ev : Event) × (e ≡ effect configs before ev)
+      due = entry_due configs script log lawful k e here
+
+      turns : EachIsTurn (granting configs n key) log
+      turns = each_node_turn configs script log lawful n key
+
+      by_hands : Hands g before e → IsReleasedAsItEnds configs n key before e
+      by_hands hands =
+          let holds = one_holder_at g log turns k in
+          record {
+            ended = λ goes ends.
+                ended configs n key before due.0 (g.grants before e) (is_stopped g before) (is_held g before) (g.holders before) (g.waiting before) (g.holders (before ++ e ∷ [])) (g.released before e)
+                hands.holding hands.free holds ends.0 ends.1;
+            alone = λ put.
+                alone configs n key before due.0 (g.grants before e) (is_stopped g before) (is_held g before) (g.holders before) (g.waiting before) (g.holders (before ++ e ∷ [])) (g.released before e)
+                hands.holding (subst (λ d. (granting configs n key).grants before d ≡ true → 1 ≤ holders_of n key configs (before ++ d ∷ [])) (sym due.1) (granted_holds configs n key before due.0)) hands.free holds put;
+          }
+
+      -- what is put waits, and nothing waits once the node has stopped
+      put_waits : count_by (puts_release n key) e.puts ≤ waiting_of n key (before ++ e ∷ [])
+      put_waits =
+          let kept : List Envelope = filter (stays (goes e)) (live before) in
+          let all : waiting_of n key (before ++ e ∷ []) ≡ weight (puts_release n key) kept + count_by (puts_release n key) e.puts =
+          ap (weight (puts_release n key)) (live-append before e)
+          ∙ (sum_by-append (λ x. cond (puts_release n key (put_of x)) 1 0) kept (placed (length before) 0 e.puts) ∙ ap (λ m. weight (puts_release n key) kept + m) (weight-placed (puts_release n key) (length before) 0 e.puts))
+          in
+          omega (arith, all)
+
+      by_halt : Halts g before e → IsReleasedAsItEnds configs n key before e
+      by_halt halts = record {
+        ended = λ goes ends. absurd (false≢true (sym goes ∙ halts.stops));
+        alone = λ put. absurd (let waits = put_waits in let none = halts.none_waits in omega (arith, put, waits, none));
+      }

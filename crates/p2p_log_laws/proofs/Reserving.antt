@@ -22,7 +22,11 @@ use Rattle.p2p_log.proofs.Each.{Has, Has-either, Has-of_kept, Each-has}
 use Rattle.p2p_log.proofs.Lines.{live-append}
 use Rattle.p2p_log_rules.specs.declared.row.Row.{Row}
 use Rattle.p2p_log_rules.specs.Connections.{is_end, begins as begins_connection, ends_connection, is_begun, is_ended, live_connection}
-use Rattle.p2p_log_rules.specs.Effect.{effect, begin_row, row, send_step_row}
+use Rattle.p2p_log_rules.specs.Connections.{tells_some}
+use Rattle.p2p_log_rules.specs.Effect.{effect, entry_of, begin_row, row, send_step_row}
+use Rattle.p2p_log_rules.specs.Facts.{stops_node, is_stopped as has_stopped}
+use Rattle.p2p_log_rules.proofs.Channels.{is_stopped-before, is_stopped-append}
+use Rattle.p2p_log_rules.proofs.Tellings.{or_right}
 use Rattle.p2p_log_rules.specs.Lawful.{IsLawful}
 use Rattle.p2p_log_rules.specs.Spawning.{Spawned, connections_of}
 use Rattle.p2p_log_rules.proofs.Connections.{ends_half, is_begun-append, is_ended-kept, is_live}
@@ -50,12 +54,13 @@ record IsLive (n : ℕ) (log : List Entry) (conn : ℕ) (key : Key) : Type 0 whe
 live_of : (n : ℕ) (log : List Entry) (conn : ℕ) (key : Key) (made : Spawned) → connections_of log n conn ≡ Some made → made.key ≡ key → is_ended log n conn ≡ false → IsLive n log conn key
 live_of n log conn key made there of lives = record { made = made; lives = is_open log n conn made lives there; of = of }
 
-module _ (configs : List Config) (n : ℕ) (script : List Event) (before : List Entry) (ev : Event) (lawful : IsLawful configs script before) (old : Reserved configs n before) where
+module _ (configs : List Config) (n : ℕ) (script : List Event) (before : List Entry) (ev : Event) (lawful : IsLawful configs script before) (old : Reserved configs n before)
+    (lasts : tells_some (stops_node n) before (entry_of ev (row configs before ev.at ev.seed ev.act)) ≡ false) where
   abbrev r : Row
   r = row configs before ev.at ev.seed ev.act
 
   abbrev e : Entry
-  e = words.e configs n script before ev lawful old
+  e = words.e configs n script before ev lawful old lasts
 
   abbrev log : List Entry
   log = before ++ e ∷ []
@@ -116,9 +121,9 @@ module _ (configs : List Config) (n : ℕ) (script : List Event) (before : List 
 
       acts : ev.act ≡ act.SendStep conn n
       acts =
-          elim (Each-has (Origin configs before ev.act r.reply (words.m configs n script before ev lawful old).taken) r.puts (queue.Tracker n, item.Connect conn key)
-          (Moved-origins configs before ev.act r.reply (words.m configs n script before ev lawful old).taken r.puts
-          ((words.shape configs n script before ev lawful old).laws (words.told configs n script before ev lawful old).standing.fitting).moved) has) [
+          elim (Each-has (Origin configs before ev.act r.reply (words.m configs n script before ev lawful old lasts).taken) r.puts (queue.Tracker n, item.Connect conn key)
+          (Moved-origins configs before ev.act r.reply (words.m configs n script before ev lawful old lasts).taken r.puts
+          ((words.shape configs n script before ev lawful old lasts).laws (words.told configs n script before ev lawful old lasts).standing.fitting).moved) has) [
             | inl own ↦ elim own [
               | inl idle ↦ absurd (false≢true idle)
               | inr h ↦ let same : conn ≡ h.0 = cc in h.4 ∙ ap (λ c. act.SendStep c n) (sym same)
@@ -168,7 +173,7 @@ module _ (configs : List Config) (n : ℕ) (script : List Event) (before : List 
     where
       by : (b : Bool) → ends_connection n conn before e ≡ b → (ends_connection n conn before e ≡ false) ⊎ (1 ≤ waits configs n key log)
       by false is = inl is
-      by true is = inr (subst (λ k. 1 ≤ waits configs n k log) live.of (words.ends_waits configs n script before ev lawful old conn live.made live.lives is))
+      by true is = inr (subst (λ k. 1 ≤ waits configs n k log) live.of (words.ends_waits configs n script before ev lawful old lasts conn live.made live.lives is))
 
   -- ---- each fact
 
@@ -183,7 +188,7 @@ module _ (configs : List Config) (n : ℕ) (script : List Event) (before : List 
                 | inl goes_on ↦ inl (is_ended-kept before e n conn goes_on ∙ lives)
                 | inr some ↦ inr some
               ]
-          | inr some ↦ inr (words.waits_on configs n script before ev lawful old key some (words.none_freed configs n script before ev lawful old x conn key v was.1))
+          | inr some ↦ inr (words.waits_on configs n script before ev lawful old lasts key some (words.none_freed configs n script before ev lawful old lasts x conn key v was.1))
         ]
     | inr new ↦
         let b : Begins x conn key = begins x conn key w new in
@@ -220,11 +225,11 @@ module _ (configs : List Config) (n : ℕ) (script : List Event) (before : List 
   unlinked x conn key w = by (is_linked configs n log key) refl
     where
       -- by word that was taken
-      taken_word : words.Links configs n script before ev lawful old key → ⊥
+      taken_word : words.Links configs n script before ev lawful old lasts key → ⊥
       taken_word links = elim (split x w.has) [
         | inl was ↦
             let same : name_of x ≡ name_of links.word = old.alone x links.word conn links.conn key (was_word x conn key w was.0) links.is in
-            let gone : stays (goes e) links.word ≡ false = taken_goes e links.word (words.name_taken configs n script before ev lawful old links.word links.taken) in
+            let gone : stays (goes e) links.word ≡ false = taken_goes e links.word (words.name_taken configs n script before ev lawful old lasts links.word links.taken) in
             false≢true (sym gone ∙ (ap (λ k. not (list_any (same_name k) (goes e))) (sym same) ∙ was.1))
         | inr new ↦ false≢true (ap (steps_tracker n) (sym (begins x conn key w new).acts) ∙ links.steps)
       ]
@@ -246,7 +251,7 @@ module _ (configs : List Config) (n : ℕ) (script : List Event) (before : List 
 
       by : (b : Bool) → is_linked configs n log key ≡ b → b ≡ false
       by false is = refl
-      by true is = absurd (elim (words.linked_by configs n script before ev lawful old key is) [ inl links ↦ taken_word links | inr was ↦ linked_before was ])
+      by true is = absurd (elim (words.linked_by configs n script before ev lawful old lasts key is) [ inl links ↦ taken_word links | inr was ↦ linked_before was ])
 
   alone : (x y : Envelope) (conn other : ℕ) (key : Key) → IsWord configs n log x conn key → IsWord configs n log y other key → name_of x ≡ name_of y
   alone x y conn other key v w = elim (split x v.has) [
@@ -265,14 +270,14 @@ module _ (configs : List Config) (n : ℕ) (script : List Event) (before : List 
   ]
 
   current : (key : Key) → is_linked configs n log key ≡ true → holds configs n log key ≡ true → IsCurrent configs n log key ⊎ (1 ≤ waits configs n key log)
-  current key is held = elim (words.linked_by configs n script before ev lawful old key is) [
+  current key is held = elim (words.linked_by configs n script before ev lawful old lasts key is) [
     | inl links ↦ elim (old.later links.word links.conn key links.is) [
       | inl lives ↦
           let of = words.word_of configs n script before lawful links.word links.conn key links.is in
           goes_on links.conn (live_of n before links.conn key of.made of.there of.of lives) (words.word_begun configs n script before lawful links.word links.conn key links.is)
       | inr some ↦ waits_still some
     ]
-    | inr was ↦ elim (old.current key was (words.was_held configs n script before ev lawful old key is held)) [
+    | inr was ↦ elim (old.current key was (words.was_held configs n script before ev lawful old lasts key is held)) [
       | inl c ↦ goes_on c.conn (record { made = c.made; lives = c.lives; of = c.of }) c.begun
       | inr some ↦ waits_still some
     ]
@@ -282,8 +287,8 @@ module _ (configs : List Config) (n : ℕ) (script : List Event) (before : List 
       waits_still some = by ((granting configs n key).frees before e) refl
         where
           by : (b : Bool) → (granting configs n key).frees before e ≡ b → IsCurrent configs n log key ⊎ (1 ≤ waits configs n key log)
-          by true frees = absurd (false≢true (sym (words.freed configs n script before ev lawful old key frees) ∙ held))
-          by false none = inr (words.waits_on configs n script before ev lawful old key some none)
+          by true frees = absurd (false≢true (sym (words.freed configs n script before ev lawful old lasts key frees) ∙ held))
+          by false none = inr (words.waits_on configs n script before ev lawful old lasts key some none)
 
       goes_on : (conn : ℕ) → IsLive n before conn key → is_begun before n conn ≡ true → IsCurrent configs n log key ⊎ (1 ≤ waits configs n key log)
       goes_on conn live begun = elim (ends_or_not conn key live) [
@@ -297,14 +302,21 @@ module _ (configs : List Config) (n : ℕ) (script : List Event) (before : List 
   reserved_more = record { later = later; behind = behind; unlinked = unlinked; alone = alone; current = current }
 
 module _ (configs : List Config) (n : ℕ) where
-  reserved_next : (script : List Event) (before : List Entry) (ev : Event) → IsLawful configs script before → Reserved configs n before → Reserved configs n (before ++ effect configs before ev ∷ [])
+  -- while the node has not stopped
+  abbrev Lasting : List Entry → Type 0
+  Lasting log = has_stopped log n ≡ false → Reserved configs n log
+
+  reserved_next : (script : List Event) (before : List Entry) (ev : Event) → IsLawful configs script before → Lasting before → Lasting (before ++ effect configs before ev ∷ [])
   unfolding effect
-  reserved_next script before ev lawful old = reserved_more configs n script before ev lawful old
+  reserved_next script before ev lawful old lasts =
+      let e : Entry = entry_of ev (row configs before ev.at ev.seed ev.act) in
+      reserved_more configs n script before ev lawful (old (is_stopped-before before e n lasts))
+      (or_right (has_stopped before n) (tells_some (stops_node n) before e) (sym (is_stopped-append before e n) ∙ lasts))
 
-  reserved : (script : List Event) (log : List Entry) → IsLawful configs script log → Reserved configs n log
-  reserved script log lawful = lawful_at_end configs (Reserved configs n) (reserved_first configs n) reserved_next script log lawful
+  reserved : (script : List Event) (log : List Entry) → IsLawful configs script log → Lasting log
+  reserved script log lawful = lawful_at_end configs Lasting (λ lasts. reserved_first configs n) reserved_next script log lawful
 
-  module _ (script : List Event) (log : List Entry) (lawful : IsLawful configs script log) where
+  module _ (script : List Event) (log : List Entry) (lawful : IsLawful configs script log) (lasts : has_stopped log n ≡ false) where
     -- a key whose release waits is held
     release_held : (key : Key) → 1 ≤ waits configs n key log → holds configs n log key ≡ true
     release_held key some =
@@ -332,7 +344,7 @@ module _ (configs : List Config) (n : ℕ) where
     )
       where
         all : Reserved configs n log
-        all = reserved script log lawful
+        all = reserved script log lawful lasts
 
         w : IsWord configs n log x conn key
         w = record {

@@ -1,6 +1,6 @@
 -- The shapes of messages that a node offers: send, check, and what is sent to those whom a check admitted.
-use Rattle.std.proofs.Common.{◌≡◌, ℕ, suc, ◌+◌, ◌<◌, Bool, true, false, List, [], ◌∷◌, ◌++◌, map, take, length, Option, Some, None, inr, refl, ap, sym, ◌∙◌, arith, subst}
-use Rattle.std.specs.Prelude.{◌==◌, ◌&&◌, nat_le, nat_lt, count_by, flat_map, filter}
+use Rattle.std.proofs.Common.{◌≡◌, ℕ, suc, ◌+◌, ◌<◌, Bool, true, false, cond, List, [], ◌∷◌, ◌++◌, map, take, length, Option, Some, None, inr, refl, ap, sym, ◌∙◌, arith, subst}
+use Rattle.std.specs.Prelude.{◌==◌, ◌&&◌, not, nat_le, nat_lt, count_by, flat_map, filter}
 use Rattle.std.specs.List.{AllByRecursion as Each}
 use Rattle.p2p_base.specs.declared.key.Key.{Key}
 use Rattle.p2p_base.specs.declared.outcome.Feedback.TheVariants as feedback
@@ -31,12 +31,13 @@ use Rattle.p2p_log.proofs.Queues.{same_queue-refl}
 use Rattle.p2p_log_rules.specs.declared.row.Row.{Row}
 use Rattle.p2p_log_rules.specs.Admitting.{offered, keys_admitted, retry_moment}
 use Rattle.p2p_log_rules.specs.Checking.{Check, check_of}
-use Rattle.p2p_log_rules.specs.Facts.{is_up, channels, capacity_in}
+use Rattle.p2p_log_rules.specs.Facts.{is_up, is_started, is_stopped, channels, capacity_in}
 use Rattle.p2p_log_rules.specs.Frames.{frame_of}
 use Rattle.p2p_log_rules.specs.Effect
 use Rattle.p2p_log_rules.specs.Effect.{entry_of}
 use Rattle.p2p_log_rules.specs.Moves.{Moves}
 use Rattle.p2p_log_rules.specs.Reading.{is_read}
+use Rattle.p2p_log_rules.proofs.Bools.{and_true}
 use Rattle.p2p_log_rules.proofs.Moves.{one_taken, stands_first, first_has}
 use Rattle.p2p_log_rules.proofs.Touches.{in_mailbox_of}
 use Rattle.p2p_log_laws.proofs.Reaching.{reads, writes}
@@ -108,12 +109,12 @@ copies_end_no_item send p [] o = refl
 copies_end_no_item send p (k ∷ ks) o = copies_end_no_item send (p + 1) ks o
 
 -- each copy of a send at a node that has not started
-unbound_each : (configs : List Config) (log : List Entry) (e : Entry) (s : Sending) (n : ℕ) → sending_of e.event.act e.reply ≡ Some s → s.by ≡ Node n → is_up log n ≡ false
+unbound_each : (configs : List Config) (log : List Entry) (e : Entry) (s : Sending) (n : ℕ) → sending_of e.event.act e.reply ≡ Some s → s.by ≡ Node n → is_started log n ≡ false → is_stopped log n ≡ false
     → (p : ℕ) (ks : List Key) → p + length ks ≡ length s.keys → Each (EndShows configs log e) (Effect.copies_end (length log) p ks (outcome.Dropped cause.Unbound))
-unbound_each configs log e s n sends by down p [] long = tt
-unbound_each configs log e s n sends by down p (k ∷ ks) long = (
-  record { sending = s; sends = sends; here = refl; has_copy = within p (length ks) (length (k ∷ ks)) (length s.keys) refl long; node = n; by = by; not_started = down },
-  unbound_each configs log e s n sends by down (p + 1) ks (longer p (length ks) (length (k ∷ ks)) (length s.keys) refl long),
+unbound_each configs log e s n sends by down lasts p [] long = tt
+unbound_each configs log e s n sends by down lasts p (k ∷ ks) long = (
+  record { sending = s; sends = sends; here = refl; has_copy = within p (length ks) (length (k ∷ ks)) (length s.keys) refl long; node = n; by = by; not_started = down; not_stopped = lasts },
+  unbound_each configs log e s n sends by down lasts (p + 1) ks (longer p (length ks) (length (k ∷ ks)) (length s.keys) refl long),
 )
   where
     within : (p l m all : ℕ) → m ≡ suc l → p + m ≡ all → p < all
@@ -122,18 +123,25 @@ unbound_each configs log e s n sends by down p (k ∷ ks) long = (
     longer : (p l m all : ℕ) → m ≡ suc l → p + m ≡ all → (p + 1) + l ≡ all
     longer p l m all e h = omega arith
 
--- what a message is accepted and refused with
-pub record Tells (a : Act) (s : Sending) (accepted refused : Reply) : Type 0 where
+-- a node that is not up, and has not stopped, has not started
+not_up : (log : List Entry) (n : ℕ) → is_up log n ≡ false → is_stopped log n ≡ false → is_started log n ≡ false
+unfolding is_up
+not_up log n down lasts = sym (and_true (is_started log n)) ∙ (ap (λ b. is_started log n && not b) (sym lasts) ∙ down)
+
+-- what a message is accepted and refused with, and what where the mailbox is closed
+pub record Tells (a : Act) (s : Sending) (accepted refused closed : Reply) : Type 0 where
   pub sends : sending_of a accepted ≡ Some s
   pub refuses : keys_sent (sending_of a refused) ≡ []
   pub silent : is_read accepted ≡ false
   pub silent_refused : is_read refused ≡ false
+  pub closes : keys_sent (sending_of a closed) ≡ []
+  pub silent_closed : is_read closed ≡ false
 
-module _ (configs : List Config) (log : List Entry) (a : Act) (names : List (ℕ × ℕ)) (l : TakesBare configs log a names) (s : Sending) (accepted refused : Reply) (t : Tells a s accepted refused)
+module _ (configs : List Config) (log : List Entry) (a : Act) (names : List (ℕ × ℕ)) (l : TakesBare configs log a names) (s : Sending) (accepted refused closed : Reply) (t : Tells a s accepted refused closed)
     (n : ℕ) (by : s.by ≡ Node n) (near : writes configs log a (queue.Router n) ≡ true) where
   -- by whether the node has started and its router's mailbox is full
-  sent_shape : (up full : Bool) → is_up log n ≡ up → Shape configs log a (Effect.taking names (Effect.sent_row accepted refused up full n (length log) s.channel s.priority (frame_of s.channel s.bytes) s.keys))
-  sent_shape false full up =
+  sent_shape : (up full : Bool) → is_up log n ≡ up → is_stopped log n ≡ false → Shape configs log a (Effect.taking names (Effect.sent_row accepted refused up full n (length log) s.channel s.priority (frame_of s.channel s.bytes) s.keys))
+  sent_shape false full up lasts =
       let r : Row = Effect.taking names (Effect.sent_row accepted refused false full n (length log) s.channel s.priority (frame_of s.channel s.bytes) s.keys) in
       record {
         moves = moves_with configs log a names l r (copies_end_no_item (length log) 0 s.keys (outcome.Dropped cause.Unbound));
@@ -150,15 +158,15 @@ module _ (configs : List Config) (log : List Entry) (a : Act) (names : List (ℕ
               let none : count_by (carries copy) l.took ≡ 0 = carries_none configs log a names l fitting copy in
               omega (arith, all, first, keys, none);
           causes = λ stand ev acts.
-              unbound_each configs log (entry_of ev r) s n (ap (λ b. sending_of b accepted) acts ∙ t.sends) by up 0 s.keys (none (length s.keys));
+              unbound_each configs log (entry_of ev r) s n (ap (λ b. sending_of b accepted) acts ∙ t.sends) by (not_up log n up lasts) lasts 0 s.keys (none (length s.keys));
           delivers = no_delivery configs log a accepted l.took r.ends t.silent;
         };
       }
     where
       none : (n : ℕ) → 0 + n ≡ n
       none n = omega arith
-  sent_shape true true up = taken_still configs log a names l refused t.refuses t.silent_refused
-  sent_shape true false up =
+  sent_shape true true up lasts = taken_still configs log a names l refused t.refuses t.silent_refused
+  sent_shape true false up lasts =
       let put : Queue × Item = (queue.Router n, item.Content s.channel (frame_of s.channel s.bytes) s.priority (length log) s.keys) in
       let r : Row = Effect.taking names (Effect.sent_row accepted refused true false n (length log) s.channel s.priority (frame_of s.channel s.bytes) s.keys) in
       record {
@@ -183,7 +191,7 @@ module _ (configs : List Config) (log : List Entry) (a : Act) (names : List (ℕ
       single b x y h k = omega arith
 
   abbrev to_row : Row
-  to_row = Effect.send_to_row configs log accepted refused s.bytes s.channel n s.priority s.keys
+  to_row = Effect.send_to_row configs log accepted refused closed s.bytes s.channel n s.priority s.keys
 
   -- and by whether the message is longer than the node lets it be
   pub send_to_shape : ((size limit : ℕ) → keys_sent (sending_of a (reply.MessageTooLarge size limit)) ≡ []) → Shape configs log a (Effect.taking names to_row)
@@ -195,9 +203,13 @@ module _ (configs : List Config) (log : List Entry) (a : Act) (names : List (ℕ
       sent : Row
       sent = Effect.sent_row accepted refused (is_up log n) full n (length log) s.channel s.priority (frame_of s.channel s.bytes) s.keys
 
-      by_size : (b : Bool) → Shape configs log a (Effect.taking names (Effect.fitting_row b (length s.bytes) (Effect.limit_at configs n) sent))
+      by_stop : (b : Bool) → is_stopped log n ≡ b → Shape configs log a (Effect.taking names (cond b (Effect.only closed) sent))
+      by_stop true is = taken_still configs log a names l closed t.closes t.silent_closed
+      by_stop false is = sent_shape (is_up log n) full refl is
+
+      by_size : (b : Bool) → Shape configs log a (Effect.taking names (Effect.fitting_row b (length s.bytes) (Effect.limit_at configs n) (cond (is_stopped log n) (Effect.only closed) sent)))
       by_size true = taken_still configs log a names l (reply.MessageTooLarge (length s.bytes) (Effect.limit_at configs n)) (none (length s.bytes) (Effect.limit_at configs n)) refl
-      by_size false = sent_shape (is_up log n) full refl
+      by_size false = by_stop (is_stopped log n) refl
 
 -- ---- the acts
 
@@ -221,10 +233,10 @@ send_shape configs log bytes c n priority to moment =
     listed : TakesBare configs log (act.Send bytes c n priority to) names
     listed = takes_list configs log (act.Send bytes c n priority to) n c to (λ all. ap (λ t. reads configs log (act.Send bytes c n priority t) (queue.Peers n c)) all ∙ same_queue-refl (queue.Peers n c))
 
-    to_these : (keys : List Key) → Shape configs log (act.Send bytes c n priority to) (Effect.taking names (Effect.send_to_row configs log (reply.Sent keys) (reply.Sent []) bytes c n priority keys))
+    to_these : (keys : List Key) → Shape configs log (act.Send bytes c n priority to) (Effect.taking names (Effect.send_to_row configs log (reply.Sent keys) (reply.Sent []) (reply.Sent []) bytes c n priority keys))
     to_these keys =
-        send_to_shape configs log (act.Send bytes c n priority to) names listed (record { by = Node n; channel = c; priority = priority; bytes = bytes; keys = keys }) (reply.Sent keys) (reply.Sent [])
-        (record { sends = refl; refuses = refl; silent = refl; silent_refused = refl }) n refl (same_queue-refl (queue.Router n)) (λ size limit. refl)
+        send_to_shape configs log (act.Send bytes c n priority to) names listed (record { by = Node n; channel = c; priority = priority; bytes = bytes; keys = keys }) (reply.Sent keys) (reply.Sent []) (reply.Sent [])
+        (record { sends = refl; refuses = refl; silent = refl; silent_refused = refl; closes = refl; silent_closed = refl }) n refl (same_queue-refl (queue.Router n)) (λ size limit. refl)
 
     by_keys : (offers keys : List Key) → Shape configs log (act.Send bytes c n priority to) (Effect.taking names (Effect.send_keys_row configs log bytes c n priority offers keys))
     by_keys [] keys = to_these keys
@@ -256,13 +268,14 @@ check_shape configs log c n to moment =
     by_keys (k ∷ ks) (j ∷ js) = taken_still configs log (act.Check c n to) names listed (reply.Checked (j ∷ js)) refl refl
 
 -- a message that takes nothing
-taking-nothing : (b up full : Bool) (accepted refused : Reply) (size limit n send c : ℕ) (priority : Bool) (frame : List ℕ) (to : List Key)
-    → Effect.taking [] (Effect.fitting_row b size limit (Effect.sent_row accepted refused up full n send c priority frame to))
-    ≡ Effect.fitting_row b size limit (Effect.sent_row accepted refused up full n send c priority frame to)
-taking-nothing true up full accepted refused size limit n send c priority frame to = refl
-taking-nothing false false full accepted refused size limit n send c priority frame to = refl
-taking-nothing false true true accepted refused size limit n send c priority frame to = refl
-taking-nothing false true false accepted refused size limit n send c priority frame to = refl
+taking-nothing : (b stopped up full : Bool) (accepted refused closed : Reply) (size limit n send c : ℕ) (priority : Bool) (frame : List ℕ) (to : List Key)
+    → Effect.taking [] (Effect.fitting_row b size limit (cond stopped (Effect.only closed) (Effect.sent_row accepted refused up full n send c priority frame to)))
+    ≡ Effect.fitting_row b size limit (cond stopped (Effect.only closed) (Effect.sent_row accepted refused up full n send c priority frame to))
+taking-nothing true stopped up full accepted refused closed size limit n send c priority frame to = refl
+taking-nothing false true up full accepted refused closed size limit n send c priority frame to = refl
+taking-nothing false false false full accepted refused closed size limit n send c priority frame to = refl
+taking-nothing false false true true accepted refused closed size limit n send c priority frame to = refl
+taking-nothing false false true false accepted refused closed size limit n send c priority frame to = refl
 
 pub send_checked_shape : (configs : List Config) (log : List Entry) (bytes : List ℕ) (check : ℕ) (priority : Bool)
     → Shape configs log (act.SendChecked bytes check priority) (Effect.send_checked_row configs log bytes check priority)
@@ -274,8 +287,9 @@ send_checked_shape configs log bytes check priority = by_check (check_of log che
         let a : Act = act.SendChecked bytes check priority in
         let taken : Reply = reply.Outcome (Outcome feedback.Ok) c.node c.channel c.keys in
         let rejected : Reply = reply.Outcome Rejected c.node c.channel c.keys in
+        let closed : Reply = reply.Outcome (Outcome feedback.Closed) c.node c.channel c.keys in
         subst (Shape configs log a)
-        (taking-nothing (nat_lt (Effect.limit_at configs c.node) (length bytes)) (is_up log c.node) (nat_le (Effect.router_capacity configs log c.node) (length (line log (queue.Router c.node))))
-        taken rejected (length bytes) (Effect.limit_at configs c.node) c.node (length log) c.channel priority (frame_of c.channel bytes) c.keys)
-        (send_to_shape configs log a [] (takes_none configs log a) (record { by = Node c.node; channel = c.channel; priority = priority; bytes = bytes; keys = c.keys }) taken rejected
-        (record { sends = refl; refuses = refl; silent = refl; silent_refused = refl }) c.node refl (ap (λ p. in_mailbox_of p (queue.Router c.node)) is ∙ same_queue-refl (queue.Router c.node)) (λ size limit. refl))
+        (taking-nothing (nat_lt (Effect.limit_at configs c.node) (length bytes)) (is_stopped log c.node) (is_up log c.node) (nat_le (Effect.router_capacity configs log c.node) (length (line log (queue.Router c.node))))
+        taken rejected closed (length bytes) (Effect.limit_at configs c.node) c.node (length log) c.channel priority (frame_of c.channel bytes) c.keys)
+        (send_to_shape configs log a [] (takes_none configs log a) (record { by = Node c.node; channel = c.channel; priority = priority; bytes = bytes; keys = c.keys }) taken rejected closed
+        (record { sends = refl; refuses = refl; silent = refl; silent_refused = refl; closes = refl; silent_closed = refl }) c.node refl (ap (λ p. in_mailbox_of p (queue.Router c.node)) is ∙ same_queue-refl (queue.Router c.node)) (λ size limit. refl))

@@ -8,6 +8,7 @@ use Rattle.p2p_log_rules.specs.Effect.{row}
 use Rattle.p2p_log_laws.proofs.CallShapes.{register_shape, start_shape, recv_shape}
 use Rattle.p2p_log_laws.proofs.CloseShape.{close_shape}
 use Rattle.p2p_log_laws.proofs.CutShape.{cut_shape}
+use Rattle.p2p_log_laws.proofs.StopShape.{stop_shape}
 use Rattle.p2p_log_laws.proofs.ConnShapes.{send_step_shape}
 use Rattle.p2p_log_laws.proofs.ReceiverShape.{recv_step_shape}
 use Rattle.p2p_log_laws.proofs.RouterShape.{router_shape}
@@ -26,6 +27,7 @@ pub row_shape : (configs : List Config) (log : List Entry) (at seed : ℕ) (a : 
 unfolding row
 row_shape configs log at seed (act.Register c n rate) = register_shape configs log c n rate
 row_shape configs log at seed (act.Start n) = start_shape configs log n
+row_shape configs log at seed (act.Stop by_start n) = stop_shape configs log by_start n
 row_shape configs log at seed (act.Send bytes c n priority to) = send_shape configs log bytes c n priority to at
 row_shape configs log at seed (act.Check c n to) = check_shape configs log c n to at
 row_shape configs log at seed (act.SendChecked bytes check priority) = send_checked_shape configs log bytes check priority

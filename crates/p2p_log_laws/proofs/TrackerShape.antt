@@ -1,5 +1,5 @@
 -- The shapes of the acts of a node's tracker: none moves a copy.
-use Rattle.std.proofs.Common.{◌≡◌, ℕ, Bool, true, false, cond, List, [], ◌∷◌, Option, Some, refl, ap, ◌∙◌, eq-eqb, subst, None}
+use Rattle.std.proofs.Common.{◌≡◌, ℕ, Bool, true, false, cond, List, [], ◌∷◌, length, Option, Some, refl, ap, ◌∙◌, eq-eqb, subst, None}
 use Rattle.std.specs.Prelude.{nat_lt}
 use Rattle.std.specs.List.{AllByRecursion as Each}
 use Rattle.p2p_base.specs.declared.key.Key.{Key}
@@ -27,7 +27,9 @@ use Rattle.p2p_log.specs.Lines.{name_of, stays, live, line}
 use Rattle.p2p_log.specs.Sending.{keys_sent, sending_of}
 use Rattle.p2p_log_rules.specs.Facts.{is_up}
 use Rattle.p2p_log_rules.specs.Reading.{is_read}
-use Rattle.p2p_log_rules.specs.Rows.{only}
+use Rattle.p2p_log_rules.specs.Facts.{is_stopped}
+use Rattle.p2p_log_rules.specs.Rows.{only, mailbox_size_at}
+use Rattle.p2p_base.specs.declared.outcome.Feedback.TheVariants as feedback
 use Rattle.p2p_log_rules.specs.Tracking.{key_cmp, rules_at, asked_by, calls_of, update_subscriptions, blocked_subscriptions}
 use Rattle.p2p_log_rules.specs.Handshakes.{is_handshaking, source_at}
 use Rattle.p2p_log_rules.specs.TrackerPuts as puts
@@ -50,12 +52,22 @@ use Rattle.p2p_log_laws.proofs.Heeded.{Each-heeded}
 
 asked_shape : (configs : List Config) (log : List Entry) (a : Act) (n : ℕ) → ((r : Reply) → keys_sent (sending_of a r) ≡ []) → writes configs log a (queue.Tracker n) ≡ true
     → Shape configs log a (rows.asked_row configs log n)
-asked_shape configs log a n none near =
-    let r : Row = rows.asked_row configs log n in
-    record {
-      moves = no_moves log r refl refl;
+asked_shape configs log a n none near = by (is_stopped log n)
+  where
+    due : Row
+    due = record {
+      reply = reply.Feedback (rows.feedback_by (mailbox_size_at configs n) (line log (queue.Tracker n)));
+      takes = [];
+      puts = (queue.Tracker n, item.Call (length log)) ∷ [];
+      ends = [];
+    }
+
+    by : (b : Bool) → Shape configs log a (cond b (only (reply.Feedback feedback.Closed)) due)
+    by true = still configs log a (reply.Feedback feedback.Closed) (none (reply.Feedback feedback.Closed)) refl
+    by false = record {
+      moves = no_moves log due refl refl;
       reach = record { taken = tt; ended = tt; puts = (near, tt) };
-      laws = λ fitting. quiet_laws configs log a r (no_moves log r refl refl) (none r.reply) refl tt tt tt ((refl, refl), tt);
+      laws = λ fitting. quiet_laws configs log a due (no_moves log due refl refl) (none due.reply) refl tt tt tt ((refl, refl), tt);
     }
 
 pub ask_shape : (configs : List Config) (log : List Entry) (n : ℕ) (what : Asked) → Shape configs log (act.Ask what n) (rows.ask_row configs log n what)
@@ -102,9 +114,13 @@ answer_shape configs log e = by_asked (asked_by log e) refl
     gone = still configs log (act.Answer e) reply.Gone refl refl
 
     by_taken : (n : ℕ) (b : Bool) → reads configs log (act.Answer e) (queue.Answer n e) ≡ true
-        → Shape configs log (act.Answer e) (cond b (only reply.Gone) (rows.oldest_row reply.Pending (line log (queue.Answer n e))))
+        → Shape configs log (act.Answer e) (cond b (only reply.Gone) (rows.oldest_row (cond (is_stopped log n) (reply.PeerSet None) reply.Pending) (line log (queue.Answer n e))))
     by_taken n true read = gone
-    by_taken n false read = oldest_shape configs log (act.Answer e) (queue.Answer n e) (λ r. refl) read refl reply.Pending refl (line log (queue.Answer n e)) refl
+    by_taken n false read = by_stop (is_stopped log n)
+      where
+        by_stop : (b : Bool) → Shape configs log (act.Answer e) (rows.oldest_row (cond b (reply.PeerSet None) reply.Pending) (line log (queue.Answer n e)))
+        by_stop true = oldest_shape configs log (act.Answer e) (queue.Answer n e) (λ r. refl) read refl (reply.PeerSet None) refl (line log (queue.Answer n e)) refl
+        by_stop false = oldest_shape configs log (act.Answer e) (queue.Answer n e) (λ r. refl) read refl reply.Pending refl (line log (queue.Answer n e)) refl
 
     by_asked : (o : Option Act) → asked_by log e ≡ o → Shape configs log (act.Answer e) (rows.answer_by log e o)
     by_asked (Some (act.Ask (ask.PeerSet index) n)) asked =
@@ -117,13 +133,20 @@ next_shape configs log e = by_asked (asked_by log e) refl
     gone : Shape configs log (act.Next e) (only reply.Gone)
     gone = still configs log (act.Next e) reply.Gone refl refl
 
+    silent : (n : ℕ) → is_read (rows.none_next log n) ≡ false
+    silent n = by (is_stopped log n)
+      where
+        by : (b : Bool) → is_read (cond b reply.StreamEnded reply.Pending) ≡ false
+        by true = refl
+        by false = refl
+
     by_asked : (o : Option Act) → asked_by log e ≡ o → Shape configs log (act.Next e) (rows.next_by log e o)
     by_asked (Some (act.Ask ask.Subscribe n)) asked =
         oldest_shape configs log (act.Next e) (queue.Updates n e) (λ r. refl)
-        (told_read configs log e (act.Next e) (act.Ask ask.Subscribe n) (queue.Updates n e) asked (same_queue-refl (queue.Updates n e)) refl) refl reply.Pending refl (line log (queue.Updates n e)) refl
+        (told_read configs log e (act.Next e) (act.Ask ask.Subscribe n) (queue.Updates n e) asked (same_queue-refl (queue.Updates n e)) refl) refl (rows.none_next log n) (silent n) (line log (queue.Updates n e)) refl
     by_asked (Some (act.Ask ask.Blocked n)) asked =
         oldest_shape configs log (act.Next e) (queue.Blocked n e) (λ r. refl)
-        (told_read configs log e (act.Next e) (act.Ask ask.Blocked n) (queue.Blocked n e) asked (same_queue-refl (queue.Blocked n e)) refl) refl reply.Pending refl (line log (queue.Blocked n e)) refl
+        (told_read configs log e (act.Next e) (act.Ask ask.Blocked n) (queue.Blocked n e) asked (same_queue-refl (queue.Blocked n e)) refl) refl (rows.none_next log n) (silent n) (line log (queue.Blocked n e)) refl
     by_asked _ asked = gone
 
 -- ---- its step

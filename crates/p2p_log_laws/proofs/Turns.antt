@@ -63,13 +63,13 @@ turns_more g before e = history_from-append (turn_by g) [] before e
 pub held_next : (g : Granting) (before : List Entry) (e : Entry) → is_held g (before ++ e ∷ []) ≡ held_after (is_held g before) (turn_by g before e)
 held_next g before e = ap (held_after false) (turns_more g before e) ∙ held_more false (turns g before) (turn_by g before e)
 
-module _ (g : Granting) (log : List Entry) (each : EachIsTurn g log) where
-  stopped_next : (before : List Entry) (e : Entry) → is_stopped g (before ++ e ∷ []) ≡ (is_stopped g before || g.stops before e)
-  stopped_next before e =
-      ap (list_any (λ (b : Bool). b)) (history_from-append (λ before e. g.stops before e ∷ []) [] before e)
-      ∙ (list_any-append (λ (b : Bool). b) (history (λ before e. g.stops before e ∷ []) before) (g.stops before e ∷ [])
-      ∙ ap (λ b. is_stopped g before || b) (or_false (g.stops before e)))
+pub stopped_next : (g : Granting) (before : List Entry) (e : Entry) → is_stopped g (before ++ e ∷ []) ≡ (is_stopped g before || g.stops before e)
+stopped_next g before e =
+    ap (list_any (λ (b : Bool). b)) (history_from-append (λ before e. g.stops before e ∷ []) [] before e)
+    ∙ (list_any-append (λ (b : Bool). b) (history (λ before e. g.stops before e ∷ []) before) (g.stops before e ∷ [])
+    ∙ ap (λ b. is_stopped g before || b) (or_false (g.stops before e)))
 
+module _ (g : Granting) (log : List Entry) (each : EachIsTurn g log) where
   times_next : (f : List Entry → Entry → ℕ) (before : List Entry) (e : Entry) → times f (before ++ e ∷ []) ≡ times f before + f before e
   times_next f before e =
       ap (λ l. sum_by (λ (n : ℕ). n) l) (history_from-append (λ before e. f before e ∷ []) [] before e)
@@ -80,10 +80,10 @@ module _ (g : Granting) (log : List Entry) (each : EachIsTurn g log) where
       zero_add n = omega arith
 
   runs_on : (before : List Entry) (e : Entry) → g.stops before e ≡ false → is_stopped g (before ++ e ∷ []) ≡ is_stopped g before
-  runs_on before e runs = stopped_next before e ∙ (ap (λ b. is_stopped g before || b) runs ∙ or_false (is_stopped g before))
+  runs_on before e runs = stopped_next g before e ∙ (ap (λ b. is_stopped g before || b) runs ∙ or_false (is_stopped g before))
 
   stops_here : (before : List Entry) (e : Entry) → g.stops before e ≡ true → is_stopped g (before ++ e ∷ []) ≡ true
-  stops_here before e stops = stopped_next before e ∙ (ap (λ b. is_stopped g before || b) stops ∙ or_true (is_stopped g before))
+  stops_here before e stops = stopped_next g before e ∙ (ap (λ b. is_stopped g before || b) stops ∙ or_true (is_stopped g before))
 
   -- ---- one holder
 

@@ -19,6 +19,7 @@ use Rattle.p2p_log.specs.declared.item.Item.{Item}
 use Rattle.p2p_log.specs.declared.item.Item.TheVariants as item
 use Rattle.p2p_log.specs.declared.entry.Entry.{Entry}
 use Rattle.p2p_log.specs.declared.event.Act.{Act}
+use Rattle.p2p_log.specs.declared.event.Act.TheVariants as act
 use Rattle.p2p_log.specs.declared.event.Event.{Event}
 use Rattle.p2p_log.proofs.Each.{Each-weaker, count_by-none}
 use Rattle.p2p_log.proofs.Queues.{same_queue-refl}
@@ -34,7 +35,7 @@ use Rattle.p2p_log_rules.specs.Effect.{entry_of}
 use Rattle.p2p_log_rules.proofs.Attempts.{attempts_of-append}
 use Rattle.p2p_log_rules.proofs.Connections.{EndsNone, ends_untold, is_ended-append}
 use Rattle.p2p_log_rules.proofs.Spawning.{connections_of-acted}
-use Rattle.p2p_log_rules.specs.Facts.{taken, with_begun}
+use Rattle.p2p_log_rules.specs.Facts.{stops, taken, with_begun}
 use Rattle.p2p_log_rules.specs.Moves.{Moves}
 use Rattle.p2p_log_rules.specs.Spawning.{spawned_of, connections_of}
 use Rattle.p2p_log_rules.specs.Tracking.{key_cmp, rules_at, grants_peer, calls_of}
@@ -53,6 +54,11 @@ use Rattle.p2p_log_laws.proofs.Dropped.{taken_same, ended_more, flying_none, tak
 use Rattle.p2p_log_laws.proofs.HalfSteps.{released, IsStep}
 use Rattle.p2p_log_laws.proofs.Weighing.{weight, count_by-one}
 use Rattle.p2p_log_rules.proofs.Steps.{steps_tracker, steps_spawner}
+
+-- an act that ends no connection stops no node
+goes_on : (n : ℕ) (a : Act) → EndsNone a → stops n a ≡ false
+goes_on n (act.Stop by_start m) none = absurd (false≢true none)
+goes_on n _ none = refl
 
 pub other_way : (m n : ℕ) → (m == n) ≡ false → (n == m) ≡ false
 other_way m n h = grind (arith, nat_tests)
@@ -107,13 +113,22 @@ module _ (configs : List Config) (n : ℕ) (key : Key) (log : List Entry) where
     pub others : g.grants log (entry_of ev r) ≡ true → is_local key_cmp (rules_at configs n) key ≡ false
     pub apart : g.grants log (entry_of ev r) ≡ true → g.frees log (entry_of ev r) ≡ false
 
+  -- the turn that a row makes, whatever it moves
+  pub record Turns (ev : Event) (r : Row) : Type 0 where
+    pub turn : is_held key_cmp (calls_by configs n log (entry_of ev r) calls) key ≡ held_after (is_held key_cmp calls key) (turn_by g log (entry_of ev r))
+    pub free : g.grants log (entry_of ev r) ≡ true → is_held key_cmp calls key ≡ false
+    pub others : g.grants log (entry_of ev r) ≡ true → is_local key_cmp (rules_at configs n) key ≡ false
+
+  pub weighs_turns : (ev : Event) (r : Row) → Weighs ev r → Turns ev r
+  weighs_turns ev r w = record { turn = w.turn; free = w.free; others = w.others }
+
   -- ---- acts other than a step of the tracker
 
   module _ (ev : Event) (r : Row) (still : steps_tracker n ev.act ≡ false) where
     abbrev e : Entry
     e = entry_of ev r
 
-    no_grant : g.grants log e ≡ false
+    pub no_grant : g.grants log e ≡ false
     no_grant = grants_elsewhere n key log e still
 
     pub no_free : g.frees log e ≡ false
@@ -127,6 +142,9 @@ module _ (configs : List Config) (n : ℕ) (key : Key) (log : List Entry) where
         ap (λ b. is_held key_cmp (cond b stepped calls) key) still
         ∙ sym (ap (λ b. held_after (is_held key_cmp calls key) (cond b (true ∷ []) (cond (g.frees log e) (false ∷ []) []))) no_grant
         ∙ ap (λ b. held_after (is_held key_cmp calls key) (cond b (false ∷ []) [])) no_free)
+
+    pub still_turns : Turns ev r
+    still_turns = record { turn = same_turn; free = λ h. absurd (false≢true (sym no_grant ∙ h)); others = λ h. absurd (false≢true (sym no_grant ∙ h)) }
 
     -- what such an act moves
     pub passed : (m : Moves log r) → (weight (puts_grant n key) m.taken + weight (puts_grant n key) m.ended) + beginners_of n key configs log
@@ -180,7 +198,7 @@ module _ (configs : List Config) (n : ℕ) (key : Key) (log : List Entry) where
     pub other : (a : Act) (r : Row) → Shape configs log a r → Away n (reads configs log a) → Away n (writes configs log a) → steps_tracker n a ≡ false → steps_spawner n a ≡ false → EndsNone a
         → ((k : ℕ) → is_attempt_of key (attempts_by configs n log (entry_of (event at seed a) r) f k) ≡ is_attempt_of key (f k)) → Weighs (event at seed a) r
     other a r shape read written still makes none kept =
-        plain_weighs (event at seed a) r still makes (λ k. ends_untold log (entry_of (event at seed a) r) n k a refl none) shape.moves (plain_out_of_reach n key configs a log r shape.moves shape.reach read written) kept
+        plain_weighs (event at seed a) r still makes (λ k. ends_untold log (entry_of (event at seed a) r) n k a refl none) shape.moves (plain_out_of_reach n key configs a log r shape.moves shape.reach (goes_on n a none) read written) kept
 
     -- ---- a step of a half
 

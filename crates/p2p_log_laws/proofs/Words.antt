@@ -27,9 +27,9 @@ use Rattle.p2p_log.proofs.Queues.{same_queue-refl}
 use Rattle.p2p_log.proofs.Taken.{Has-taken}
 use Rattle.p2p_log_rules.specs.declared.row.Half.{Half}
 use Rattle.p2p_log_rules.specs.declared.row.Row.{Row}
-use Rattle.p2p_log_rules.specs.Connections.{half_at, ends_connection, is_begun, is_ended, live_connection}
+use Rattle.p2p_log_rules.specs.Connections.{tells_some, half_at, ends_connection, is_begun, is_ended, live_connection}
 use Rattle.p2p_log_rules.specs.Effect.{effect, entry_of, row}
-use Rattle.p2p_log_rules.specs.Facts.{taken, state_from}
+use Rattle.p2p_log_rules.specs.Facts.{stops_node, taken, state_from}
 use Rattle.p2p_log_rules.specs.Lawful.{IsLawful}
 use Rattle.p2p_log_rules.specs.Moves.{Moves}
 use Rattle.p2p_log_rules.specs.Spawning.{Spawned, connections_of}
@@ -49,7 +49,8 @@ use Rattle.p2p_log_laws.proofs.ConnectedCalls.{Follows, connects_key, first_conn
 use Rattle.p2p_log_laws.proofs.ConnectionHolds.{held_by_connections}
 use Rattle.p2p_log_laws.proofs.CountBelow.{count_below-one}
 use Rattle.p2p_log_laws.proofs.EndOlder.{connection_before, open_parts, of_key}
-use Rattle.p2p_log_laws.proofs.Ending.{ending}
+use Rattle.p2p_log_rules.proofs.Channels.{stop_told}
+use Rattle.p2p_log_laws.proofs.Ending.{IsEndIn, ending}
 use Rattle.p2p_log_laws.proofs.HeldCalls.{key_from}
 use Rattle.p2p_log_laws.proofs.Leaving.{taken_first}
 use Rattle.p2p_log_laws.proofs.Ledger.{Told, Told-end}
@@ -213,7 +214,8 @@ module _ (configs : List Config) (n : ℕ) where
 
   -- ---- one more entry
 
-  module _ (script : List Event) (before : List Entry) (ev : Event) (lawful : IsLawful configs script before) (old : Reserved before) where
+  module _ (script : List Event) (before : List Entry) (ev : Event) (lawful : IsLawful configs script before) (old : Reserved before)
+      (lasts : tells_some (stops_node n) before (entry_of ev (row configs before ev.at ev.seed ev.act)) ≡ false) where
     abbrev pub r : Row
     r = row configs before ev.at ev.seed ev.act
 
@@ -243,7 +245,7 @@ module _ (configs : List Config) (n : ℕ) where
         let turn : IsTurn (granting configs n key) (take (length before) log) e =
         (each_node_turn configs (script ++ ev ∷ []) log lawful_after n key).each (length before) e (slice_get-seam before e [])
         in
-        elim (subst (λ l. IsTurn (granting configs n key) l e) (take_front before (e ∷ [])) turn).hands [ inl h ↦ h | inr halts ↦ absurd (false≢true halts.stops) ]
+        elim (subst (λ l. IsTurn (granting configs n key) l e) (take_front before (e ∷ [])) turn).hands [ inl h ↦ h | inr halts ↦ absurd (false≢true (sym lasts ∙ halts.stops)) ]
 
     pub waits_on : (key : Key) → 1 ≤ waits key before → (granting configs n key).frees before e ≡ false → 1 ≤ waits key log
     waits_on key some none =
@@ -271,11 +273,8 @@ module _ (configs : List Config) (n : ℕ) where
             ap (λ b. held_after (is_held (granting configs n key) before) (cond b (true ∷ []) (cond ((granting configs n key).frees before e) (false ∷ []) []))) grants
             ∙ ap (λ b. held_after (is_held (granting configs n key) before) (cond b (false ∷ []) [])) frees
 
-    -- where a connection of the key ends, its release waits
-    pub ends_waits : (conn : ℕ) (c : Spawned) → live_connection before n conn ≡ Some c → ends_connection n conn before e ≡ true → 1 ≤ waits c.key log
-    unfolding effect
-    ends_waits conn c lives ends =
-        let over = ending configs before ev n conn ends in
+    released : (conn : ℕ) (c : Spawned) → live_connection before n conn ≡ Some c → IsEndIn before n conn ev.act r → 1 ≤ waits c.key log
+    released conn c lives over =
         let of = of_half script before lawful conn over.half (is_live before n conn over.half over.lived).at in
         let same : of.made ≡ c = same_Some of.made c (sym of.there ∙ (open_parts before n conn c lives).made) in
         let peer : c.key ≡ over.half.peer = ap (λ (k : Spawned). k.key) (sym same) ∙ of.of in
@@ -285,6 +284,11 @@ module _ (configs : List Config) (n : ℕ) where
         in
         waits_now c.key (count_has (puts_release n c.key) r.puts (queue.Tracker n, item.Release over.half.peer) put is)
         (frees_elsewhere n c.key before e over.aside)
+
+    -- where a connection of the key ends, its release waits
+    pub ends_waits : (conn : ℕ) (c : Spawned) → live_connection before n conn ≡ Some c → ends_connection n conn before e ≡ true → 1 ≤ waits c.key log
+    unfolding effect
+    ends_waits conn c lives ends = elim (ending configs before ev n conn ends) [ inl over ↦ released conn c lives over | inr over ↦ absurd (false≢true (sym lasts ∙ stop_told before e n over.stop)) ]
 
     -- ---- what is taken
 

@@ -10,12 +10,13 @@ use Rattle.p2p_log.specs.Lines.{line}
 use Rattle.p2p_log_rules.specs.Admitting.{offered, keys_admitted}
 use Rattle.p2p_log_rules.specs.Checking.{Check, check_of}
 use Rattle.p2p_log_rules.specs.Effect.{limit_at, router_capacity}
-use Rattle.p2p_log_rules.specs.Facts.{channels, capacity_in}
+use Rattle.p2p_log_rules.specs.Facts.{is_stopped, channels, capacity_in}
 
 -- why a node takes no such message in, whomever it is for
 pub data IsTurnedAway (configs : List Config) (before : List Entry) (n : ℕ) (bytes : List ℕ) : Type 0 where
   TooLong : nat_lt (limit_at configs n) (length bytes) ≡ true → IsTurnedAway configs before n bytes
   MailboxFull : nat_le (router_capacity configs before n) (length (line before (queue.Router n))) ≡ true → IsTurnedAway configs before n bytes
+  Stopped : is_stopped before n ≡ true → IsTurnedAway configs before n bytes
 
 -- why a message of a node is for nobody, whatever its quota admits
 abbrev pub IsRefused : List Config → List Entry → ℕ → ℕ → List ℕ → Type 0

@@ -23,9 +23,10 @@ use Rattle.p2p_log.specs.Lines.{name_of, line}
 use Rattle.p2p_log_rules.specs.Closing.{is_closed}
 use Rattle.p2p_log_rules.specs.Connections.{half_at, live_half, ends_connection, is_ended}
 use Rattle.p2p_log_rules.specs.Cutting.{queues_over}
+use Rattle.p2p_log_rules.specs.Stopping.{emptied_at}
 use Rattle.p2p_log_rules.specs.Dropping.{LinkEnd, drops_of, frames_towards}
 use Rattle.p2p_log_rules.specs.Ending.{queues_with}
-use Rattle.p2p_log_rules.specs.Facts.{is_up, channels, capacity_in, key_at, taken, routes, route_to}
+use Rattle.p2p_log_rules.specs.Facts.{is_started, is_stopped, channels, capacity_in, key_at, taken, routes, route_to}
 use Rattle.p2p_log_rules.specs.Frames.{message_in, is_ping_in}
 use Rattle.p2p_log_rules.specs.Effect.{goes_to, relay_queue, mailbox_size_at, limit_at, other_side}
 use Rattle.p2p_log_laws.specs.Delivered.{IsCopyOf}
@@ -33,7 +34,7 @@ use Rattle.p2p_log_laws.specs.Grants.{IsAmong}
 
 -- ---- unbound
 
--- the entry is the copy's send, at a node that had not started
+-- the entry is the copy's send, at a node that had neither started nor stopped
 pub record IsUnbound (configs : List Config) (before : List Entry) (e : Entry) (copy : ℕ × ℕ) : Type 0 where
   pub sending : Sending
   pub sends : sending_of e.event.act e.reply ≡ Some sending
@@ -41,7 +42,8 @@ pub record IsUnbound (configs : List Config) (before : List Entry) (e : Entry) (
   pub has_copy : copy.1 < length sending.keys
   pub node : ℕ
   pub by : sending.by ≡ Node node
-  pub not_started : is_up before node ≡ false
+  pub not_started : is_started before node ≡ false
+  pub not_stopped : is_stopped before node ≡ false
 
 -- ---- no connection
 
@@ -248,6 +250,21 @@ pub record IsInFlightAtCut (before : List Entry) (e : Entry) (copy : ℕ × ℕ)
   pub stood : slice_get (line before from) place ≡ Some left
   pub carried : carries copy left ≡ true
 
+-- ---- node stopped
+
+-- the entry stops a node, with which the copy stood: its item waited there, or was in flight towards it
+pub record IsStoppedWith (before : List Entry) (e : Entry) (copy : ℕ × ℕ) : Type 0 where
+  pub node : ℕ
+  pub by_start : Bool
+  pub stops : e.event.act ≡ act.Stop by_start node
+  pub done : e.reply ≡ reply.Ok
+  pub from : Queue
+  pub with : IsAmong (emptied_at before node) from
+  pub place : ℕ
+  pub left : Envelope
+  pub stood : slice_get (line before from) place ≡ Some left
+  pub carried : carries copy left ≡ true
+
 -- ---- all causes
 
 -- what an entry that drops the copy for this cause shows, given the entries before it
@@ -261,6 +278,7 @@ Shows configs before e copy cause.ChannelUnregistered = ChannelIsUnregistered co
 Shows configs before e copy cause.MailboxFull = MailboxIsFull configs before e copy
 Shows configs before e copy cause.ReceiverClosed = ReceiverIsClosed configs before e copy
 Shows configs before e copy cause.LinkCut = IsInFlightAtCut before e copy
+Shows configs before e copy cause.NodeStopped = IsStoppedWith before e copy
 
 -- each entry that drops a copy shows the cause
 abbrev pub EachDropShowsItsCause : List Config → List Entry → Type 0

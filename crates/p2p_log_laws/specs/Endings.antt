@@ -1,5 +1,5 @@
 -- How connections end: each entry that ends one shows its reason, and the release of an older connection comes before the beginning of a newer one.
-use Rattle.std.specs.Prelude.{◌≡◌, ℕ, ◌<◌, true, false, List, [], ◌∷◌, take, Some, None, slice_get}
+use Rattle.std.specs.Prelude.{◌≡◌, ◌⊎◌, ℕ, ◌<◌, Bool, true, false, List, [], ◌∷◌, take, Some, None, slice_get}
 use Rattle.p2p_base.specs.declared.key.Key.{Key}
 use Rattle.p2p_log.specs.declared.config.Config.{Config}
 use Rattle.p2p_log.specs.declared.queue.Queue.{Queue}
@@ -9,6 +9,7 @@ use Rattle.p2p_log.specs.declared.item.Item.TheVariants as item
 use Rattle.p2p_log.specs.declared.item.Envelope.{Envelope}
 use Rattle.p2p_log.specs.declared.entry.Ended.{Ended}
 use Rattle.p2p_log.specs.declared.entry.Ended.TheVariants as ended
+use Rattle.p2p_log.specs.declared.event.Act.TheVariants as act
 use Rattle.p2p_log.specs.declared.entry.Entry.{Entry}
 use Rattle.p2p_log.specs.declared.entry.Reply.TheVariants as reply
 use Rattle.p2p_log.specs.Lines.{name_of, line}
@@ -61,17 +62,23 @@ pub record ShowsEnd (configs : List Config) (before : List Entry) (e : Entry) (n
 
 -- ---- the entries that end connections
 
--- each entry that ends a connection shows why, as its reply says
+-- the entry stops this node
+pub record StopsNode (e : Entry) (n : ℕ) : Type 0 where
+  pub by_start : Bool
+  pub acts : e.event.act ≡ act.Stop by_start n
+  pub done : e.reply ≡ reply.Ok
+
+-- each entry that ends a connection shows why, as its reply says, or stops the connection's node
 abbrev pub EachEndShows : List Config → List Entry → Type 0
 EachEndShows configs log =
     (i n conn : ℕ) (e : Entry) → slice_get log i ≡ Some e → ends_connection n conn (take i log) e ≡ true
-    → (why : Ended) × (e.reply ≡ reply.Ended why) × ShowsEnd configs (take i log) e n conn why
+    → ((why : Ended) × (e.reply ≡ reply.Ended why) × ShowsEnd configs (take i log) e n conn why) ⊎ StopsNode e n
 
--- an entry ends one connection at most
+-- an entry ends one connection at most, or connections of the node alone that it stops
 abbrev pub EachEndsOne : List Entry → Type 0
 EachEndsOne log =
     (i n m c d : ℕ) (e : Entry) → slice_get log i ≡ Some e → ends_connection n c (take i log) e ≡ true → ends_connection m d (take i log) e ≡ true
-    → (n ≡ m) × (c ≡ d)
+    → (n ≡ m) × ((c ≡ d) ⊎ StopsNode e n)
 
 -- and a connection ends at one entry at most
 abbrev pub EachIsEndedOnce : List Entry → Type 0

@@ -13,6 +13,7 @@ use Rattle.p2p_log.specs.Lines.{live}
 use Rattle.p2p_log_rules.specs.Attempting.{Attempt, attempts_of}
 use Rattle.p2p_log_rules.specs.Connections.{tells_some, live_connection}
 use Rattle.p2p_log_rules.specs.Spawning.{Spawned}
+use Rattle.p2p_log_rules.specs.Facts.{stops_node}
 use Rattle.p2p_log_rules.specs.Tellings.{Telling}
 use Rattle.p2p_log_rules.specs.Tellings as telling
 use Rattle.p2p_log_laws.specs.Grants.{one, Granting}
@@ -87,12 +88,12 @@ module _ (n : ℕ) (key : Key) where
   tells_release (telling.release_heard m k) = (m == n) && (k.0 == key.0)
   tells_release _ = false
 
--- of a key at a node: the tracker grants it and takes its releases, and nothing stops the node yet
+-- of a key at a node: the tracker grants it and takes its releases, until the node stops
 abbrev pub granting : List Config → ℕ → Key → Granting
 granting configs n key = record {
   grants = λ before e. tells_some (tells_grant n key) before e;
   frees = λ before e. tells_some (tells_release n key) before e;
-  stops = λ before e. false;
+  stops = λ before e. tells_some (stops_node n) before e;
   holders = holders_of n key configs;
   waiting = waiting_of n key;
   released = λ before e. count_by (puts_release n key) e.puts;

@@ -42,6 +42,7 @@ tries n (act.Attempt e m) = m == n
 tries n (act.Resolve addresses e m) = m == n
 tries n (act.Connect e from m to) = m == n
 tries n (act.Refuse e m) = m == n
+tries n (act.Stop by_start m) = m == n
 tries n _ = false
 
 module _ (n k : ℕ) where
@@ -81,6 +82,9 @@ module _ (n k : ℕ) where
     tries_none (act.Resolve addresses e m) h = quiet_act (of_attempt n k) name at ts before seed r items puts (act.Resolve addresses e m) (ap (λ b. b && (k == e)) h)
     tries_none (act.Connect e from m to) h = quiet_act (of_attempt n k) name at ts before seed r items puts (act.Connect e from m to) (ap (λ b. b && (k == e)) h, ap (λ b. b && (k == e)) h)
     tries_none (act.Refuse e m) h = quiet_act (of_attempt n k) name at ts before seed r items puts (act.Refuse e m) (ap (λ b. b && (k == e)) h)
+    tries_none (act.Stop by_start m) h =
+        quiet_act (of_attempt n k) name at ts before seed r items puts (act.Stop by_start m)
+        (record { stops = refl; attempt = λ e. ap (λ b. b && (k == e)) h; handshake = λ e link. refl; connection = λ conn. refl; drops = λ link s. refl })
     tries_none a h = untold_act (of_attempt n k) attempt_kinds of_kinds ts before name at seed r items puts a refl
 
     -- an attempt begins in the entry of its name alone

@@ -14,12 +14,13 @@ use Rattle.p2p_log.specs.declared.entry.Reply.{Reply}
 use Rattle.p2p_log.specs.declared.event.Act.{Act}
 use Rattle.p2p_log.specs.declared.event.Act.TheVariants as act
 use Rattle.p2p_log_rules.specs.Dialing.{Pace, pace_at, after_dial, next_deadline, Dials, in_drawn_order, new_dials, without_last, lists, dials, less, left_of, dial_list, asks, sets_deadline, dials_in, dials_of, dial_puts}
-use Rattle.p2p_log_rules.specs.Facts.{starts, taken}
+use Rattle.p2p_log_rules.specs.Facts.{starts, is_stopped, taken}
 use Rattle.p2p_log_rules.specs.Tellings.{Telling, Last, last_told, last_or}
 use Rattle.p2p_log_rules.specs.Tellings as telling
 use Rattle.p2p_log_rules.specs.Told.{asks_list, answer_tells, ask_tells, act_tells, tells, told}
 use Rattle.p2p_log_rules.proofs.Families.{kind, kinds_of, has, are_apart, untold_act, untold_of}
 use Rattle.p2p_log_rules.proofs.Told.{quiet_act}
+use Rattle.p2p_log_rules.proofs.Channels.{unless_is}
 use Rattle.p2p_log_rules.proofs.Tellings.{told-append, or_left, or_right, last_or-append, with_last, last_told-one}
 
 -- ---- after one telling more
@@ -218,8 +219,11 @@ module _ (pace : Pace) (n : ℕ) where
   asked_told at items q puts d = ap (λ b. record d { asked_at = unwrap_or (cond b (Some at) None) d.asked_at; is_asking = unwrap_or (cond b (Some true) None) d.is_asking }) here
 
 -- at the start of its node
-pub dials_of-starts : (configs : List Config) (log : List Entry) (e : Entry) (n : ℕ) → e.event.act ≡ act.Start n → dials_of configs (log ++ e ∷ []) n ≡ new_dials e.event.at
-dials_of-starts configs log e n is = dials_of-act configs log e n (act.Start n) is ∙ started_told (pace_at configs n) n e.event.at (dials_of configs log n)
+pub dials_of-starts : (configs : List Config) (log : List Entry) (e : Entry) (n : ℕ) → e.event.act ≡ act.Start n → is_stopped log n ≡ false → dials_of configs (log ++ e ∷ []) n ≡ new_dials e.event.at
+dials_of-starts configs log e n is lasts =
+    dials_of-act configs log e n (act.Start n) is
+    ∙ (ap (λ us. dials_told (pace_at configs n) n us (dials_of configs log n)) (unless_is log n (telling.node_started n e.event.at ∷ []) lasts)
+    ∙ started_told (pace_at configs n) n e.event.at (dials_of configs log n))
 
 -- after its step: first what it took is told, and then what it asked
 pub dials_of-stepped : (configs : List Config) (log : List Entry) (e : Entry) (n : ℕ) → e.event.act ≡ act.Dialer n → dials_of configs (log ++ e ∷ []) n

@@ -18,6 +18,7 @@ use Rattle.p2p_log_rules.proofs.Tellings.{or_left, or_right}
 -- each kind of telling has a number
 abbrev pub kind : Telling → ℕ
 kind (telling.node_started m at) = 0
+kind (telling.node_stopped m) = 1
 kind (telling.list_asked m at) = 2
 kind (telling.list_taken m asked seed next peers) = 3
 kind (telling.answer_taken m) = 4
@@ -70,6 +71,7 @@ kind (telling.arrival_judged m at from g) = 48
 abbrev pub kinds_of : Act → List ℕ
 kinds_of (act.Register c m rate) = 20 ∷ []
 kinds_of (act.Start m) = 0 ∷ []
+kinds_of (act.Stop by_start m) = 1 ∷ 13 ∷ 14 ∷ 25 ∷ 28 ∷ []
 kinds_of (act.Router m) = 70 ∷ 71 ∷ 72 ∷ 73 ∷ []
 kinds_of (act.Tracker m) = 60 ∷ 61 ∷ 62 ∷ 63 ∷ 64 ∷ 65 ∷ 66 ∷ 67 ∷ 68 ∷ 69 ∷ []
 kinds_of (act.Send bytes c m priority to) = 43 ∷ []
@@ -101,6 +103,7 @@ are_apart ks js = not (list_any (has js) ks)
 within : (name at : ℕ) (a : Act) → NoneTold (λ t. not (has (kinds_of a) (kind t))) name at a
 within name at (act.Register c m rate) = refl
 within name at (act.Start m) = refl
+within name at (act.Stop by_start m) = record { stops = refl; attempt = λ k. refl; handshake = λ h link. refl; connection = λ conn. refl; drops = λ link s. refl }
 within name at (act.Router m) = record { wants = λ c. refl; ready = λ conn key. refl; release = λ key. refl; list = λ n c keys. refl }
 within name at (act.Tracker m) = record {
   unblocks = refl;

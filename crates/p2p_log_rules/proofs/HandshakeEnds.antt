@@ -10,9 +10,9 @@ use Rattle.p2p_log_rules.specs.Facts.{taken, with_named}
 use Rattle.p2p_log_rules.specs.Handshakes.{ends_handshake, handshakes_of, is_handshaking, peer_of, peer_at}
 use Rattle.p2p_log_rules.specs.Links.{listening_ends_of}
 use Rattle.p2p_log_rules.specs.Told.{admitted_as}
-use Rattle.p2p_log_rules.proofs.Handshakes.{Begins, Ends, handshakes_of-listened, handshakes_now, is_among, among-without, handshaking_early}
+use Rattle.p2p_log_rules.proofs.Handshakes.{Begins, Ends, Stops, handshakes_of-listened, handshakes_now, is_among, among-without, handshaking_early}
 use Rattle.p2p_log_rules.proofs.Ignoring.{by_entries}
-use Rattle.p2p_log_rules.proofs.Links.{Takes, listening_ends_of-shaken, end_now, listening_ends_of-none}
+use Rattle.p2p_log_rules.proofs.Links.{Takes, listening_ends_of-stopped, listening_ends_of-shaken, end_now, listening_ends_of-none}
 use Rattle.p2p_log_rules.proofs.Standing.{started}
 use Rattle.p2p_log_rules.proofs.TakenAt.{taken_at-longer, taken_at-last}
 
@@ -54,10 +54,11 @@ module _ (n : ℕ) (log : List Entry) (e : Entry) (leads : Leads n log) where
           let t : None ≡ Some (listening.Handshake h) = sym gone ∙ is in
           cc
 
-      by : (handshakes_of longer n ≡ names) ⊎ (Begins log e n ⊎ Ends log e n) → is_handshaking longer n h ≡ true
+      by : (handshakes_of longer n ≡ names) ⊎ (Begins log e n ⊎ (Ends log e n ⊎ Stops log e n)) → is_handshaking longer n h ≡ true
       by (inl same) = ap (is_among h) same ∙ ran
       by (inr (inl begins)) = ap (is_among h) begins.now ∙ among_more h (length log) names ran
-      by (inr (inr ends)) = ap (is_among h) ends.now ∙ (among-without ends.name h names ∙ (ap (λ b. not b && is_among h names) (other ends (h == ends.name) refl) ∙ ran))
+      by (inr (inr (inr stops))) = let t : None ≡ Some (listening.Handshake h) = sym (listening_ends_of-stopped log e n stops.stop link) ∙ is in cc
+      by (inr (inr (inl ends))) = ap (is_among h) ends.now ∙ (among-without ends.name h names ∙ (ap (λ b. not b && is_among h names) (other ends (h == ends.name) refl) ∙ ran))
 
   more : Leads n longer
   more link h is = by (end_now log e n link h is)

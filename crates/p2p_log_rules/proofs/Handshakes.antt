@@ -1,6 +1,6 @@
 -- The handshakes of a node after one more entry, and that each name stands once among them, which is that of an earlier entry.
 use Rattle.std.proofs.Common.{◌≡◌, ℕ, zero, suc, ◌+◌, ◌≤◌, Bool, true, false, cond, List, [], ◌∷◌, ◌++◌, length, refl, ap, sym, subst, ◌∙◌, arith, eq-eqb, eqb-true, append-nil, length-append, Option, Some, None, ◌⊎◌, inl, inr}
-use Rattle.std.specs.Prelude.{◌==◌, ◌&&◌, ◌||◌, not, filter, count_by, nat_lt}
+use Rattle.std.specs.Prelude.{◌==◌, ◌&&◌, ◌||◌, not, filter, count_by, nat_lt, is_some}
 use Rattle.std.specs.List.{list_any}
 use Rattle.std.proofs.lemmas.Bool.Decides.{nat_tests}
 use Rattle.std.proofs.lemmas.List.Filters.{length-filter_both}
@@ -20,13 +20,16 @@ use Rattle.p2p_log_rules.specs.Puts.{broke_off}
 use Rattle.p2p_log_rules.specs.Standing.{standing}
 use Rattle.p2p_log_rules.specs.Tellings.{Telling}
 use Rattle.p2p_log_rules.specs.Tellings as telling
-use Rattle.p2p_log_rules.specs.Told.{when, admitted_as, begun_tells, arrival_tells, handshake_tells, gates_tell, heard_tells, tells, told}
+use Rattle.p2p_log_rules.specs.Told.{when, admitted_as, begun_tells, arrival_tells, handshake_tells, gates_tell, heard_tells, stop_tells, tells, told}
+use Rattle.p2p_log.proofs.Each.{Each-from_has}
+use Rattle.p2p_log_rules.proofs.Channels.{IsStopOf, tells_stop, by_stop}
 use Rattle.p2p_log_rules.proofs.Families.{kind, kinds_of, has, are_apart, untold_of}
 use Rattle.p2p_log_rules.proofs.Ignoring.{by_entries}
 use Rattle.p2p_log_rules.proofs.LinkTells.{tells_act, quiet_told}
-use Rattle.p2p_log_rules.proofs.Standing.{started, stood_after, stood_told, standing-more, stood_append, same_filter, same_stood, others_stood}
+use Rattle.p2p_log_rules.proofs.Standing.{started, stood_after, stood_told, standing-more, stood_append, same_filter, same_stood, others_stood, all_stopped}
+use Rattle.p2p_log_rules.proofs.Stopped.{stop_handshake}
 use Rattle.p2p_log_rules.proofs.Tellings.{told-append, when_quiet}
-use Rattle.p2p_log_rules.proofs.Told.{arrival_quiet, gates_quiet, heard_quiet}
+use Rattle.p2p_log_rules.proofs.Told.{NoneStopped, arrival_quiet, gates_quiet, heard_quiet, stop_quiet}
 
 -- these without the one of a name
 abbrev pub without_name : ℕ → List ℕ → List ℕ
@@ -141,12 +144,31 @@ module _ (log : List Entry) (e : Entry) (n : ℕ) where
     pub over : ends_handshake e.reply (taken log e) ≡ true
     pub now : handshakes_of (log ++ e ∷ []) n ≡ without_name name (handshakes_of log n)
 
+  -- or all
+  pub record Stops : Type 0 where
+    pub stop : IsStopOf log e n
+    pub now : handshakes_of (log ++ e ∷ []) n ≡ []
+
+  pub handshakes_of-stopped : IsStopOf log e n → handshakes_of (log ++ e ∷ []) n ≡ []
+  unfolding handshakes_of
+  handshakes_of-stopped stop =
+      handshakes_of-append
+      ∙ (ap (λ us. stood_told (begins_handshake n) (ends_named n) us (handshakes_of log n)) (tells_stop log e n stop)
+      ∙ all_stopped (begins_handshake n) (ends_named n) (stop_tells (told log) log n) (handshakes_of log n) (stop_quiet (λ t. is_some (begins_handshake n t)) 0 0 (told log) log n begins_none)
+      (Each-from_has (λ h. list_any (ends_named n h) (stop_tells (told log) log n) ≡ true) (handshakes_of log n) (λ h has. stop_handshake (told log) log n (ends_named n h) h has (λ link. here n h))))
+    where
+      begins_none : NoneStopped (λ t. is_some (begins_handshake n t)) n
+      begins_none = record { stops = refl; attempt = λ k. refl; handshake = λ h link. refl; connection = λ c. refl; drops = λ link s. refl }
+
+      here : (n h : ℕ) → ((n == n) && (h == h)) ≡ true
+      here n h = grind (arith, nat_tests)
+
   -- or leaves them alone
-  pub handshakes_now : (handshakes_of (log ++ e ∷ []) n ≡ handshakes_of log n) ⊎ (Begins ⊎ Ends)
+  pub handshakes_now : (handshakes_of (log ++ e ∷ []) n ≡ handshakes_of log n) ⊎ (Begins ⊎ (Ends ⊎ Stops))
   handshakes_now = by e.event.act refl
     where
       Now : Type 0
-      Now = (handshakes_of (log ++ e ∷ []) n ≡ handshakes_of log n) ⊎ (Begins ⊎ Ends)
+      Now = (handshakes_of (log ++ e ∷ []) n ≡ handshakes_of log n) ⊎ (Begins ⊎ (Ends ⊎ Stops))
 
       begins : e.event.act ≡ act.Listener n → (r : Reply) → e.reply ≡ r → handshakes_of (log ++ e ∷ []) n ≡ handshakes_of log n ++ started (admitted_as (length log) r) → Now
       begins acts (reply.Gates gates.Admitted) is now = inr (inl (record { acts = acts; replied = is; now = now }))
@@ -154,7 +176,7 @@ module _ (log : List Entry) (e : Entry) (n : ℕ) where
       begins acts _ is now = inl (now ∙ append-nil hs)
 
       shakes : (h : ℕ) → e.event.act ≡ act.Handshake h n → (b : Bool) → ends_handshake e.reply (taken log e) ≡ b → handshakes_of (log ++ e ∷ []) n ≡ cond b (without_name h hs) hs → Now
-      shakes h acts true over now = inr (inr (record { name = h; acts = acts; over = over; now = now }))
+      shakes h acts true over now = inr (inr (inl (record { name = h; acts = acts; over = over; now = now })))
       shakes h acts false over now = inl now
 
       listener : (m : ℕ) → e.event.act ≡ act.Listener m → (b : Bool) → (m == n) ≡ b → Now
@@ -169,6 +191,12 @@ module _ (log : List Entry) (e : Entry) (n : ℕ) where
       by : (a : Act) → e.event.act ≡ a → Now
       by (act.Listener m) acts = listener m acts (m == n) refl
       by (act.Handshake h m) acts = shaken h m acts (m == n) refl
+      by (act.Stop by_start m) acts =
+          by_stop log e n by_start m acts
+          (λ other. inl (handshakes_of-kept (quiet_told (told log) log e (of_handshakes n) (act.Stop by_start m) acts
+          (record { stops = refl; attempt = λ k. refl; handshake = λ h link. other; connection = λ c. refl; drops = λ link s. refl }))))
+          (λ stop. inr (inr (inr (record { stop = stop; now = handshakes_of-stopped stop }))))
+          (λ none. inl (handshakes_of-kept (ap (list_any (of_handshakes n)) none)))
       by a acts = inl (handshakes_of-apart (ap (λ b. are_apart (kinds_of b) handshake_kinds) acts))
 
 pub handshakes_of-none : (n : ℕ) → handshakes_of [] n ≡ []
@@ -298,10 +326,11 @@ handshakes_once log n = by_entries (λ l. AreOnce (length l) (handshakes_of l n)
     more l e h =
         subst (λ m. AreOnce m (handshakes_of (l ++ e ∷ []) n)) (sym (length-append l (e ∷ []))) (by (handshakes_now l e n))
       where
-        by : (handshakes_of (l ++ e ∷ []) n ≡ handshakes_of l n) ⊎ (Begins l e n ⊎ Ends l e n) → AreOnce (length l + 1) (handshakes_of (l ++ e ∷ []) n)
+        by : (handshakes_of (l ++ e ∷ []) n ≡ handshakes_of l n) ⊎ (Begins l e n ⊎ (Ends l e n ⊎ Stops l e n)) → AreOnce (length l + 1) (handshakes_of (l ++ e ∷ []) n)
         by (inl same) = subst (AreOnce (length l + 1)) (sym same) (once_later (length l) (handshakes_of l n) h)
         by (inr (inl begins)) = subst (AreOnce (length l + 1)) (sym begins.now) (once_admitted (length l) (handshakes_of l n) h)
-        by (inr (inr ends)) = subst (AreOnce (length l + 1)) (sym ends.now) (once_later (length l) (without_name ends.name (handshakes_of l n)) (once_without (length l) ends.name (handshakes_of l n) h))
+        by (inr (inr (inr stops))) = subst (AreOnce (length l + 1)) (sym stops.now) (record { once = λ k. omega arith; early = λ k past. refl })
+        by (inr (inr (inl ends))) = subst (AreOnce (length l + 1)) (sym ends.now) (once_later (length l) (without_name ends.name (handshakes_of l n)) (once_without (length l) ends.name (handshakes_of l n) h))
 
 -- no handshake has the name of a later entry
 pub none_later : (log : List Entry) (n k : ℕ) → length log ≤ k → is_handshaking log n k ≡ false

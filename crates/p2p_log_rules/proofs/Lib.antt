@@ -12,6 +12,7 @@ pub mod Cutting
 pub mod Dialed
 pub mod Dialing
 pub mod Dropping
+pub mod Emptied
 pub mod Facts
 pub mod Families
 pub mod First
@@ -36,6 +37,8 @@ pub mod Routing
 pub mod Sends
 pub mod Spawning
 pub mod Standing
+pub mod Stopped
+pub mod Stopping
 pub mod Steps
 pub mod TakenAt
 pub mod Taking

@@ -1,6 +1,6 @@
 -- The links over which keys are exchanged, and what has their listening ends, after one more entry.
 use Rattle.std.proofs.Common.{◌≡◌, ℕ, ◌+◌, ◌≤◌, Bool, true, false, cond, List, [], ◌∷◌, ◌++◌, length, Option, Some, None, ◌⊎◌, inl, inr, refl, ap, sym, subst, ◌∙◌, arith, eq-eqb, eqb-true, length-append}
-use Rattle.std.specs.Prelude.{◌==◌, ◌&&◌, unwrap_or}
+use Rattle.std.specs.Prelude.{◌==◌, ◌&&◌, ◌||◌, unwrap_or, flat_map, is_some}
 use Rattle.std.specs.List.{list_any}
 use Rattle.std.specs.Option.{option_map}
 use Rattle.std.proofs.lemmas.Option.{same_Some}
@@ -8,6 +8,7 @@ use Rattle.p2p_base.specs.declared.key.Key.{Key}
 use Rattle.p2p_address.specs.declared.ip.SocketAddr.{SocketAddr}
 use Rattle.p2p_tracker_calls.specs.declared.gates.Reply.TheVariants as gates
 use Rattle.p2p_log.specs.declared.queue.Queue.{Queue}
+use Rattle.p2p_log.specs.declared.queue.Queue.TheVariants as queue
 use Rattle.p2p_log.specs.declared.queue.Side.TheVariants as side
 use Rattle.p2p_log.specs.declared.item.Item.{Item}
 use Rattle.p2p_log.specs.declared.item.Item.TheVariants as item
@@ -16,6 +17,7 @@ use Rattle.p2p_log.specs.declared.entry.Reply.{Reply}
 use Rattle.p2p_log.specs.declared.entry.Reply.TheVariants as reply
 use Rattle.p2p_log.specs.declared.event.Act.{Act}
 use Rattle.p2p_log.specs.declared.event.Act.TheVariants as act
+use Rattle.p2p_log.specs.Lines.{line}
 use Rattle.p2p_log_rules.specs.declared.row.Opening.{Opening}
 use Rattle.p2p_log_rules.specs.declared.row.ListeningEnd.{ListeningEnd}
 use Rattle.p2p_log_rules.specs.declared.row.ListeningEnd.TheVariants as listening
@@ -25,12 +27,13 @@ use Rattle.p2p_log_rules.specs.Links.{opens_exchange, openings_of, has_listening
 use Rattle.p2p_log_rules.specs.Puts.{broke_off}
 use Rattle.p2p_log_rules.specs.Tellings.{Telling, last_or}
 use Rattle.p2p_log_rules.specs.Tellings as telling
-use Rattle.p2p_log_rules.specs.Told.{when, done_tells, link_tells, admitted_as, begun_tells, arrival_tells, handshake_tells, gates_tell, heard_tells, tells, told}
+use Rattle.p2p_log_rules.specs.Told.{messages_stop, arrivals_stop, attempts_in, attempt_stops, handshakes_in, handshake_stops, connections_in, connection_stops, stop_tells, when, done_tells, link_tells, admitted_as, begun_tells, arrival_tells, handshake_tells, gates_tell, heard_tells, tells, told}
+use Rattle.p2p_log_rules.proofs.Channels.{IsStopOf, tells_stop, by_stop}
 use Rattle.p2p_log_rules.proofs.Families.{kind, kinds_of, has, are_apart}
 use Rattle.p2p_log_rules.proofs.Ignoring.{reads_some, last_or-none, unwrap_named, unwrap_at, by_entries}
-use Rattle.p2p_log_rules.proofs.LinkTells.{weaker, told_of, tells_act, TellsNone, apart_none, linked_tells, finished_tells}
-use Rattle.p2p_log_rules.proofs.Tellings.{told-append, last_or-append, append_quiet}
-use Rattle.p2p_log_rules.proofs.Told.{begun_quiet, gates_quiet, heard_quiet}
+use Rattle.p2p_log_rules.proofs.LinkTells.{weaker, told_of, quiet_told, tells_act, TellsNone, apart_none, linked_tells, finished_tells}
+use Rattle.p2p_log_rules.proofs.Tellings.{told-append, last_or-append, append_quiet, or_left, or_right}
+use Rattle.p2p_log_rules.proofs.Told.{begun_quiet, gates_quiet, heard_quiet, stop_quiet}
 
 -- ---- between whom keys are exchanged
 
@@ -169,13 +172,29 @@ openings_of-closed log e k other closed = by (openings_of (log ++ e ∷ []) k) r
 
 -- the kinds of tellings that change it
 abbrev pub listening_kinds : List ℕ
-listening_kinds = 10 ∷ 22 ∷ 25 ∷ []
+listening_kinds = 1 ∷ 10 ∷ 22 ∷ 25 ∷ []
 
 listening_reads : (n k : ℕ) (t : Telling) → has listening_kinds (kind t) ≡ false → reads_some (has_listening n k) t ≡ false
 listening_reads n k (telling.link_opened m j link to) h = cc
 listening_reads n k (telling.arrival_taken m link handshake) h = cc
 listening_reads n k (telling.handshake_ended m h link) is = cc
+listening_reads n k (telling.node_stopped m) is = cc
 listening_reads n k _ h = refl
+
+-- whether an end is given to something
+abbrev gives_some : Option (Option ListeningEnd) → Bool
+gives_some None = false
+gives_some (Some None) = false
+gives_some (Some (Some end)) = true
+
+given_none : (b : Bool) → gives_some (cond b (Some None) None) ≡ false
+given_none true = refl
+given_none false = refl
+
+given : (o : Option (Option ListeningEnd)) → gives_some o ≡ false → unwrap_or o None ≡ None
+given None h = refl
+given (Some None) h = refl
+given (Some (Some end)) h = cc
 
 module _ (log : List Entry) (e : Entry) (n : ℕ) where
   abbrev ends : ℕ → Option ListeningEnd
@@ -264,6 +283,47 @@ module _ (log : List Entry) (e : Entry) (n : ℕ) where
       by false true items = same (m == n) (ends k)
       by false false items = same (m == n) (ends k)
 
+  -- the stop of another node leaves them alone: its tellings are of that node
+  listening_ends_of-elsewhere : (by_start : Bool) (m : ℕ) → e.event.act ≡ act.Stop by_start m → (m == n) ≡ false → (k : ℕ) → listening_ends_of (log ++ e ∷ []) n k ≡ listening_ends_of log n k
+  listening_ends_of-elsewhere by_start m acts other k =
+      listening_ends_of-kept k
+      (quiet_told (told log) log e (reads_some (has_listening n k)) (act.Stop by_start m) acts (record {
+        stops = ap (λ b. is_some {T = Option ListeningEnd} (cond b (Some None) None)) other;
+        attempt = λ j. refl;
+        handshake = λ h link. ap (λ b. is_some {T = Option ListeningEnd} (cond (b && (k == link)) (Some None) None)) other;
+        connection = λ conn. refl;
+        drops = λ link s. refl;
+      }))
+
+  -- its own stop lets go of all
+  pub listening_ends_of-stopped : IsStopOf log e n → (k : ℕ) → listening_ends_of (log ++ e ∷ []) n k ≡ None
+  listening_ends_of-stopped stop k =
+      listening_ends_of-append k
+      ∙ (ap (last_or (ends k) (has_listening n k)) (tells_stop log e n stop)
+      ∙ (ap (λ b. last_or (unwrap_or (cond b (Some None) None) (ends k)) (has_listening n k) rest) (eq-eqb n n refl) ∙ none_comes rest none_begins))
+    where
+      rest : List Telling
+      rest =
+          messages_stop (told log) n (line log (queue.Spawner n))
+          ++ (arrivals_stop (line log (queue.Arrivals n))
+          ++ (flat_map (attempt_stops (told log) n) (attempts_in (told log) n) ++ (flat_map (handshake_stops log n) (handshakes_in (told log) n) ++ flat_map (connection_stops (told log) n) (connections_in (told log) n))))
+
+      gives : Telling → Bool
+      gives t = gives_some (has_listening n k t)
+
+      none_begins : list_any gives rest ≡ false
+      none_begins = or_right (gives (telling.node_stopped n)) (list_any gives rest) (stop_quiet gives 0 0 (told log) log n (record {
+        stops = given_none (n == n);
+        attempt = λ j. refl;
+        handshake = λ h link. given_none ((n == n) && (k == link));
+        connection = λ conn. refl;
+        drops = λ link s. refl;
+      }))
+
+      none_comes : (us : List Telling) → list_any gives us ≡ false → last_or None (has_listening n k) us ≡ None
+      none_comes [] h = refl
+      none_comes (t ∷ us) h = ap (λ o. last_or o (has_listening n k) us) (given (has_listening n k t) (or_left (gives t) (list_any gives us) h)) ∙ none_comes us (or_right (gives t) (list_any gives us) h)
+
   -- the entry takes the arrival over a link, for a handshake of its name
   pub record Takes (link h : ℕ) : Type 0 where
     pub named : h ≡ length log
@@ -331,6 +391,11 @@ module _ (log : List Entry) (e : Entry) (n : ℕ) where
       by (act.Connect d from m to) acts = inl (links d m to e.reply e.puts (now (act.Connect d from m to) acts))
       by (act.Listener m) acts = listens m acts (taken log e) refl (sym (listening_ends_of-listened m (taken log e) acts refl link) ∙ is)
       by (act.Handshake k m) acts = inl (shakes (m == n) (ends_handshake e.reply (taken log e)) (peer_at log k).link (sym (listening_ends_of-shaken k m acts link) ∙ is))
+      by (act.Stop by_start m) acts =
+          by_stop log e n by_start m acts
+          (λ other. inl (sym (listening_ends_of-elsewhere by_start m acts other link) ∙ is))
+          (λ stop. absurd (let t : None ≡ Some (listening.Handshake h) = sym (listening_ends_of-stopped stop link) ∙ is in cc))
+          (λ none. inl (sym (listening_ends_of-kept link (ap (list_any (reads_some (has_listening n link))) none)) ∙ is))
       by a acts = inl (sym (listening_ends_of-apart (ap (λ b. are_apart (kinds_of b) listening_kinds) acts) link) ∙ is)
 
 pub listening_ends_of-none : (n k : ℕ) → listening_ends_of [] n k ≡ None

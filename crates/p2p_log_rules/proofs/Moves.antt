@@ -55,7 +55,7 @@ module _ (log : List Entry) (ev : Event) (r : Row) (m : Moves log r) where
   line-after q =
       ap (filter (stands_in q)) (live-append log (entry_of ev r)) ∙ filter-append (stands_in q) kept (placed (length log) 0 r.puts)
 
-  none_placed : (q : Queue) (n p : ℕ) (puts : List (Queue × Item)) → Each (λ x. goes_to q x ≡ false) puts → Each (λ x. stands_in q x ≡ false) (placed n p puts)
+  pub none_placed : (q : Queue) (n p : ℕ) (puts : List (Queue × Item)) → Each (λ x. goes_to q x ≡ false) puts → Each (λ x. stands_in q x ≡ false) (placed n p puts)
   none_placed q n p [] h = tt
   none_placed q n p (x ∷ puts) h = (h.0, none_placed q n (p + 1) puts h.1)
 

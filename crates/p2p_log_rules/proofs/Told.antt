@@ -1,6 +1,6 @@
 -- What an act may tell: where a test holds of none of that, it holds of nothing that the act tells. The one proof that looks at acts.
 use Rattle.std.proofs.Common.{◌≡◌, ℕ, Bool, true, false, List, [], ◌∷◌, ◌++◌, refl, ap, ◌∙◌, Option, Some, None}
-use Rattle.std.specs.Prelude.{◌&&◌, ◌||◌, not}
+use Rattle.std.specs.Prelude.{◌&&◌, ◌||◌, not, flat_map}
 use Rattle.std.specs.List.{list_any}
 use Rattle.p2p_base.specs.declared.key.Key.{Key}
 use Rattle.p2p_address.specs.declared.ip.IpAddr.{IpAddr}
@@ -9,15 +9,18 @@ use Rattle.p2p_address.specs.declared.peer.Ingress.{Ingress}
 use Rattle.p2p_tracker_calls.specs.declared.gates.Reply.{Reply as Gates}
 use Rattle.p2p_tracker_calls.specs.declared.gates.Reply.TheVariants as gates
 use Rattle.p2p_log.specs.declared.queue.Queue.{Queue}
+use Rattle.p2p_log.specs.declared.queue.Queue.TheVariants as queue
 use Rattle.p2p_log.specs.declared.queue.Side.{Side}
 use Rattle.p2p_log.specs.declared.queue.Side.TheVariants as side
 use Rattle.p2p_log.specs.declared.item.Item.{Item}
 use Rattle.p2p_log.specs.declared.item.Item.TheVariants as item
+use Rattle.p2p_log.specs.declared.item.Envelope.{Envelope}
 use Rattle.p2p_log.specs.declared.entry.Entry.{Entry}
 use Rattle.p2p_log.specs.declared.entry.Reply.{Reply}
 use Rattle.p2p_log.specs.declared.entry.Reply.TheVariants as reply
 use Rattle.p2p_log.specs.declared.event.Act.{Act}
 use Rattle.p2p_log.specs.declared.event.Act.TheVariants as act
+use Rattle.p2p_log.specs.Lines.{line}
 use Rattle.p2p_log_rules.specs.declared.row.Half.{Half}
 use Rattle.p2p_log_rules.specs.HalfSteps.{is_end, puts_ping, holds}
 use Rattle.p2p_log_rules.specs.Halves.{half_in}
@@ -25,7 +28,7 @@ use Rattle.p2p_log_rules.specs.HandshakeSteps.{ends_handshake, peer_at}
 use Rattle.p2p_log_rules.specs.Puts.{gave_up, ends_attempt, broke_off, is_answer, turns_away, is_peer_set, arrival_link}
 use Rattle.p2p_log_rules.specs.Tellings.{Telling, last_or}
 use Rattle.p2p_log_rules.specs.Tellings as telling
-use Rattle.p2p_log_rules.specs.Told.{listening_dropped, received_tells, admitted_tells, check_tells, judged_tells, heard_tells, admitted_in, spawn_tells, admitted_as, begun_tells, arrival_tells, handshake_tells, sender_tells, over_tells, when, done_tells, asks_list, link_in, dialing_dropped, half_dropped, gates_tell, answer_tells, ask_tells, took_tells, left_tells, link_tells, act_tells}
+use Rattle.p2p_log_rules.specs.Told.{stops_node, half_to_be, messages_stop, arrivals_stop, attempts_in, attempt_stops, handshakes_in, handshake_stops, connections_in, connection_stops, stop_tells, listening_dropped, received_tells, admitted_tells, check_tells, judged_tells, heard_tells, admitted_in, spawn_tells, admitted_as, begun_tells, arrival_tells, handshake_tells, sender_tells, over_tells, when, done_tells, asks_list, link_in, dialing_dropped, half_dropped, gates_tell, answer_tells, ask_tells, took_tells, left_tells, link_tells, act_tells}
 use Rattle.p2p_log_rules.proofs.Routed.{NoneRouted, router_quiet}
 use Rattle.std.proofs.lemmas.List.Folds.{list_any-append}
 use Rattle.p2p_log_rules.proofs.Bools.{and_false, or_false}
@@ -76,10 +79,19 @@ pub record NoneHeard (test : Telling → Bool) (m at : ℕ) : Type 0 where
   pub update : (addresses : List IpAddr) → test (telling.update_taken m addresses) ≡ false
   pub arrival : (from : IpAddr) (g : Gates) → test (telling.arrival_judged m at from g) ≡ false
 
+-- nor a stop of a node
+pub record NoneStopped (test : Telling → Bool) (m : ℕ) : Type 0 where
+  pub stops : test (telling.node_stopped m) ≡ false
+  pub attempt : (k : ℕ) → test (telling.attempt_ended m k) ≡ false
+  pub handshake : (h link : ℕ) → test (telling.handshake_ended m h link) ≡ false
+  pub connection : (conn : ℕ) → test (telling.connection_ended m conn) ≡ false
+  pub drops : (link : ℕ) (s : Side) → test (telling.end_dropped link s) ≡ false
+
 module _ (test : Telling → Bool) (name at : ℕ) where
   abbrev pub NoneTold : Act → Type 0
   NoneTold (act.Register c m rate) = test (telling.channel_registered m c rate) ≡ false
   NoneTold (act.Start m) = test (telling.node_started m at) ≡ false
+  NoneTold (act.Stop by_start m) = NoneStopped test m
   NoneTold (act.Router m) = NoneRouted test m
   NoneTold (act.Tracker m) = NoneTracked test m at
   NoneTold (act.Send bytes c m priority to) = (keys : List Key) → test (telling.sends_admitted m c at keys) ≡ false
@@ -229,11 +241,44 @@ module _ (test : Telling → Bool) (name at : ℕ) where
   connect_quiet m e to r puts h k =
       done_quiet test r (telling.dial_answered m e name ∷ link_tells m e name to puts) (more (telling.dial_answered m e name) (link_tells m e name to puts) h (link_quiet m e to puts k))
 
+  -- of what each tells of the things that end with a node
+  each_quiet : {X : Type 0} (f : X → List Telling) (xs : List X) → ((x : X) → list_any test (f x) ≡ false) → list_any test (flat_map f xs) ≡ false
+  each_quiet f [] h = refl
+  each_quiet f (x ∷ xs) h = append_quiet test (f x) (flat_map f xs) (h x) (each_quiet f xs h)
+
+  pub stop_quiet : (ts : List Telling) (before : List Entry) (m : ℕ) → NoneStopped test m → list_any test (stop_tells ts before m) ≡ false
+  stop_quiet ts before m h =
+      more (telling.node_stopped m)
+      (messages_stop ts m messages ++ (arrivals_stop arrivals ++ (flat_map (attempt_stops ts m) (attempts_in ts m) ++ (flat_map (handshake_stops before m) (handshakes_in ts m) ++ flat_map (connection_stops ts m) (connections_in ts m)))))
+      h.stops
+      (append_quiet test (messages_stop ts m messages)
+      (arrivals_stop arrivals ++ (flat_map (attempt_stops ts m) (attempts_in ts m) ++ (flat_map (handshake_stops before m) (handshakes_in ts m) ++ flat_map (connection_stops ts m) (connections_in ts m))))
+      (each_quiet (λ (x : Envelope). half_dropped (half_to_be ts m x.item)) messages (λ x. half_quiet (half_to_be ts m x.item) h.drops))
+      (append_quiet test (arrivals_stop arrivals)
+      (flat_map (attempt_stops ts m) (attempts_in ts m) ++ (flat_map (handshake_stops before m) (handshakes_in ts m) ++ flat_map (connection_stops ts m) (connections_in ts m)))
+      (each_quiet (λ (x : Envelope). listening_dropped (arrival_link (x.item ∷ []))) arrivals (λ x. turned_quiet (arrival_link (x.item ∷ [])) (λ link. h.drops link side.In)))
+      (append_quiet test (flat_map (attempt_stops ts m) (attempts_in ts m))
+      (flat_map (handshake_stops before m) (handshakes_in ts m) ++ flat_map (connection_stops ts m) (connections_in ts m))
+      (each_quiet (attempt_stops ts m) (attempts_in ts m) (λ k. more (telling.attempt_ended m k) (dialing_dropped (link_in ts m k)) (h.attempt k) (cut_quiet (link_in ts m k) (λ link. h.drops link side.Out))))
+      (append_quiet test (flat_map (handshake_stops before m) (handshakes_in ts m)) (flat_map (connection_stops ts m) (connections_in ts m))
+      (each_quiet (handshake_stops before m) (handshakes_in ts m)
+      (λ k. more (telling.handshake_ended m k (peer_at before k).link) (telling.end_dropped (peer_at before k).link side.In ∷ []) (h.handshake k (peer_at before k).link) (one (telling.end_dropped (peer_at before k).link side.In) (h.drops (peer_at before k).link side.In))))
+      (each_quiet (connection_stops ts m) (connections_in ts m)
+      (λ conn. more (telling.connection_ended m conn) (half_dropped (half_in ts m conn)) (h.connection conn) (half_quiet (half_in ts m conn) h.drops)))))))
+    where
+      messages : List Envelope
+      messages = line before (queue.Spawner m)
+
+      arrivals : List Envelope
+      arrivals = line before (queue.Arrivals m)
+
   pub quiet_act : (ts : List Telling) (before : List Entry) (seed : ℕ) (r : Reply) (items : List Item) (puts : List (Queue × Item)) (a : Act) → NoneTold a
       → list_any test (act_tells ts before name at seed r items puts a) ≡ false
   quiet_act ts before seed r items puts (act.Router m) h = router_quiet test m h items puts
-  quiet_act ts before seed r items puts (act.Register c m rate) h = one (telling.channel_registered m c rate) h
-  quiet_act ts before seed r items puts (act.Start m) h = one (telling.node_started m at) h
+  quiet_act ts before seed r items puts (act.Register c m rate) h =
+      when_quiet test (not (list_any (stops_node m) ts)) (telling.channel_registered m c rate ∷ []) (one (telling.channel_registered m c rate) h)
+  quiet_act ts before seed r items puts (act.Start m) h = when_quiet test (not (list_any (stops_node m) ts)) (telling.node_started m at ∷ []) (one (telling.node_started m at) h)
+  quiet_act ts before seed r items puts (act.Stop by_start m) h = when_quiet test (not (list_any (stops_node m) ts)) (stop_tells ts before m) (stop_quiet ts before m h)
   quiet_act ts before seed r items puts (act.Send bytes c m priority to) h = one (telling.sends_admitted m c at (admitted_in ts m c at to)) (h (admitted_in ts m c at to))
   quiet_act ts before seed r items puts (act.Check c m to) h = more (telling.sends_admitted m c at (admitted_in ts m c at to)) (check_tells m name c r) (h.0 (admitted_in ts m c at to)) (check_quiet m c r h.1)
   quiet_act ts before seed r items puts (act.SendChecked bytes check priority) h = one (telling.check_spent check) h

@@ -1,5 +1,5 @@
 -- What was asked of nodes, by the events alone, as valid input reads it.
-use Rattle.std.specs.Prelude.{ℕ, ◌*◌, Bool, false, ◌==◌, cond, List, [], ◌∷◌, map, flat_map, Option, Some, None, slice_get}
+use Rattle.std.specs.Prelude.{ℕ, ◌*◌, Bool, false, ◌==◌, ◌&&◌, cond, List, [], ◌∷◌, map, flat_map, Option, Some, None, slice_get}
 use Rattle.std.specs.List.{list_any}
 use Rattle.p2p_log.specs.declared.config.Config.{Config}
 use Rattle.p2p_log.specs.declared.entry.Entry.{Entry}
@@ -14,7 +14,18 @@ events_of log = map (λ e. e.event) log
 
 abbrev pub starts : ℕ → Act → Bool
 starts n (act.Start m) = m == n
+starts n (act.Stop by_start m) = by_start && (m == n)
 starts n _ = false
+
+-- whether an act stops a node, or turns it on or off
+abbrev pub stops : ℕ → Act → Bool
+stops n (act.Stop by_start m) = m == n
+stops n _ = false
+
+abbrev pub turns : ℕ → Act → Bool
+turns n (act.Start m) = m == n
+turns n (act.Stop by_start m) = m == n
+turns n _ = false
 
 -- whether a node was asked to start
 unfoldable pub has_started : List Event → ℕ → Bool

@@ -10,6 +10,7 @@ pub use Rattle.p2p_log_rules.specs.Puts.{is_answer}
 use Rattle.p2p_log_rules.specs.Spawning.{Spawned, connections_of}
 use Rattle.p2p_log_rules.specs.Tellings.{Telling}
 use Rattle.p2p_log_rules.specs.Tellings as telling
+pub use Rattle.p2p_log_rules.specs.Told.{is_over}
 use Rattle.p2p_log_rules.specs.Told.{tells, told}
 
 -- ---- halves
@@ -53,11 +54,6 @@ has_run log n conn = list_any (is_answered n conn) (told log)
 -- whether it is answered in an entry
 abbrev pub runs : ℕ → ℕ → List Entry → Entry → Bool
 runs n conn before e = tells_some (is_answered n conn) before e
-
--- that it ended
-abbrev pub is_over : ℕ → ℕ → Telling → Bool
-is_over n conn (telling.connection_ended m c) = (m == n) && (c == conn)
-is_over n conn _ = false
 
 -- whether it has ended
 unfoldable pub is_ended : List Entry → ℕ → ℕ → Bool

@@ -30,7 +30,7 @@ use Rattle.p2p_log.specs.declared.event.Recipients.TheVariants as recipients
 use Rattle.p2p_log.specs.declared.event.Event.{Event}
 use Rattle.p2p_log.specs.QueueCode.{same_queue}
 use Rattle.p2p_log.specs.Lines.{line, live, name_of, stands_in, stays}
-use Rattle.p2p_log_rules.specs.Facts.{is_up, channels, capacity_in, capacity_for, subscribers, routes, with_route, keys_in, route_to}
+use Rattle.p2p_log_rules.specs.Facts.{is_up, is_stopped, channels, capacity_in, capacity_for, subscribers, routes, with_route, keys_in, route_to}
 use Rattle.p2p_log_rules.specs.Connections.{live_half, is_begun, is_running, is_ended}
 pub use Rattle.p2p_log_rules.specs.Dropping.{other_side}
 use Rattle.p2p_log_rules.specs.Cutting.{is_broken, cut_row}
@@ -50,18 +50,24 @@ use Rattle.p2p_log_rules.specs.Attempting.{resolve_row, refuse_row, connect_row}
 use Rattle.p2p_log_rules.specs.Dialing.{dialer_row}
 use Rattle.p2p_log_rules.specs.Links.{finish_row}
 use Rattle.p2p_log_rules.specs.Spawning.{spawner_row}
+use Rattle.p2p_log_rules.specs.Stopping.{stop_row}
 use Rattle.p2p_log_rules.specs.TrackerRows.{ask_row, answer_row, next_row, tracker_row}
 
 -- ---- calls
 
+-- what a node that has stopped does not do any more
+abbrev pub unless_stopped : List Entry → ℕ → Reply → Row → Row
+unless_stopped log n said r = cond (is_stopped log n) (only said) r
+
 -- register: the channel's queue holds the retained peers' bursts
-abbrev pub register_row : List Config → ℕ → Rate → Row
-register_row configs n rate = only (reply.Capacity (capacity_for (slice_get configs n) rate))
+abbrev pub register_row : List Config → List Entry → ℕ → Rate → Row
+register_row configs log n rate = unless_stopped log n reply.Gone (only (reply.Capacity (capacity_for (slice_get configs n) rate)))
 
 -- start: one subscription for each channel, in order of registration
 abbrev pub start_row : List Config → List Entry → ℕ → Row
 start_row configs log n =
-    record { reply = reply.Ok; takes = []; puts = map (λ c. (queue.Router n, item.Subscribe c.0)) (channels configs log n); ends = [] }
+    unless_stopped log n reply.Gone
+    (record { reply = reply.Ok; takes = []; puts = map (λ c. (queue.Router n, item.Subscribe c.0)) (channels configs log n); ends = [] })
 
 -- each copy of the send, from this place on, ends so
 abbrev pub copies_end : ℕ → ℕ → List Key → How → List End
@@ -96,16 +102,17 @@ abbrev pub admitted_row : List Key → List Key → Row → Row
 admitted_row (k ∷ ks) [] sent = only (reply.Sent [])
 admitted_row to keys sent = sent
 
--- a message to these keys, which the quota of its channel admitted
-abbrev pub send_to_row : List Config → List Entry → Reply → Reply → List ℕ → ℕ → ℕ → Bool → List Key → Row
-send_to_row configs log accepted refused bytes c n priority keys =
+-- a message to these keys, which the quota of its channel admitted: with one reply where it is accepted, with another where the router's
+-- mailbox is full, and with a third where that is closed
+abbrev pub send_to_row : List Config → List Entry → Reply → Reply → Reply → List ℕ → ℕ → ℕ → Bool → List Key → Row
+send_to_row configs log accepted refused closed bytes c n priority keys =
     fitting_row (nat_lt (limit_at configs n) (length bytes)) (length bytes) (limit_at configs n)
-    (sent_row accepted refused (is_up log n) (is_full configs log (queue.Router n)) n (length log) c priority (frame_of c bytes) keys)
+    (unless_stopped log n closed (sent_row accepted refused (is_up log n) (is_full configs log (queue.Router n)) n (length log) c priority (frame_of c bytes) keys))
 
 -- send to these keys of those that it is for
 abbrev pub send_keys_row : List Config → List Entry → List ℕ → ℕ → ℕ → Bool → List Key → List Key → Row
 send_keys_row configs log bytes c n priority to keys =
-    admitted_row to keys (send_to_row configs log (reply.Sent keys) (reply.Sent []) bytes c n priority keys)
+    admitted_row to keys (send_to_row configs log (reply.Sent keys) (reply.Sent []) (reply.Sent []) bytes c n priority keys)
 
 abbrev pub send_row : List Config → List Entry → List ℕ → ℕ → ℕ → Bool → Recipients → ℕ → Row
 send_row configs log bytes c n priority to at =
@@ -133,7 +140,7 @@ abbrev pub spent_row : List Config → List Entry → List ℕ → Bool → Opti
 spent_row configs log bytes priority None = only reply.Gone
 spent_row configs log bytes priority (Some c) =
     send_to_row configs log
-    (reply.Outcome (Outcome feedback.Ok) c.node c.channel c.keys) (reply.Outcome Rejected c.node c.channel c.keys)
+    (reply.Outcome (Outcome feedback.Ok) c.node c.channel c.keys) (reply.Outcome Rejected c.node c.channel c.keys) (reply.Outcome (Outcome feedback.Closed) c.node c.channel c.keys)
     bytes c.channel c.node priority c.keys
 
 abbrev pub send_checked_row : List Config → List Entry → List ℕ → ℕ → Bool → Row
@@ -145,12 +152,14 @@ read_row name (item.Message bytes copy from) =
     record { reply = reply.Message bytes from; takes = name ∷ []; puts = []; ends = end.Copy copy.0 copy.1 outcome.Delivered ∷ [] }
 read_row name _ = only reply.Pending
 
-abbrev pub oldest_read : List Envelope → Row
-oldest_read [] = only reply.Pending
-oldest_read (x ∷ _) = read_row (name_of x) x.item
+-- or this reply, where none waits
+abbrev pub oldest_read : Reply → List Envelope → Row
+oldest_read empty [] = only empty
+oldest_read empty (x ∷ _) = read_row (name_of x) x.item
 
 abbrev pub recv_row : List Config → List Entry → ℕ → ℕ → Row
-recv_row configs log c n = cond (has_reader configs log n c) (oldest_read (line log (queue.Channel n c))) (only reply.Gone)
+recv_row configs log c n =
+    cond (has_reader configs log n c) (oldest_read (cond (is_stopped log n) reply.NetworkClosed reply.Pending) (line log (queue.Channel n c))) (only reply.Gone)
 
 -- ---- the router's step
 
@@ -395,8 +404,9 @@ recv_step_row configs log conn n at = cond (is_up log n) (receiving_row configs 
 
 -- at a moment and with a seed
 unfoldable pub row : List Config → List Entry → ℕ → ℕ → Act → Row
-row configs log at seed (act.Register c n rate) = register_row configs n rate
+row configs log at seed (act.Register c n rate) = register_row configs log n rate
 row configs log at seed (act.Start n) = start_row configs log n
+row configs log at seed (act.Stop by_start n) = stop_row log n
 row configs log at seed (act.Send bytes c n priority to) = send_row configs log bytes c n priority to at
 row configs log at seed (act.Check c n to) = check_row configs log c n to at
 row configs log at seed (act.SendChecked bytes check priority) = send_checked_row configs log bytes check priority

@@ -1,5 +1,5 @@
 -- What stands of nodes, channels and routers, by the log.
-use Rattle.std.specs.Prelude.{ℕ, ◌+◌, max, Bool, false, ◌==◌, ◌&&◌, cond, List, [], ◌∷◌, map, flat_map, Option, Some, None, slice_get}
+use Rattle.std.specs.Prelude.{ℕ, ◌+◌, max, Bool, false, ◌==◌, ◌&&◌, not, cond, List, [], ◌∷◌, map, flat_map, Option, Some, None, slice_get}
 use Rattle.std.specs.List.{list_any}
 use Rattle.std.specs.BTreeMap.{insert_entry, is_at}
 use Rattle.std.specs.Map.{lookup, remove_entry}
@@ -11,7 +11,7 @@ use Rattle.p2p_log.specs.declared.item.Item.TheVariants as item
 use Rattle.p2p_log.specs.declared.entry.Entry.{Entry}
 use Rattle.p2p_log.specs.declared.event.Event.{Event}
 use Rattle.p2p_log.specs.declared.event.Rate.{Rate}
-pub use Rattle.p2p_log_rules.specs.Asked.{events_of, starts, capacity_for, with_capacity, registers_at, rates_by}
+pub use Rattle.p2p_log_rules.specs.Asked.{events_of, starts, stops, turns, capacity_for, with_capacity, registers_at, rates_by}
 unfoldable pub use Rattle.p2p_log_rules.specs.Asked.{has_started, registered}
 pub use Rattle.p2p_log_rules.specs.Taking.{item_put, item_in, item_named, taken_in, with_named, with_begun, history}
 unfoldable pub use Rattle.p2p_log_rules.specs.Taking.{taken, taken_at, history_from, state_from}
@@ -20,18 +20,26 @@ use Rattle.p2p_log_rules.specs.Quotas.{rates_in}
 use Rattle.p2p_log_rules.specs.Routed.{peers_in}
 use Rattle.p2p_log_rules.specs.Tellings.{Telling, last_or}
 use Rattle.p2p_log_rules.specs.Tellings as telling
+pub use Rattle.p2p_log_rules.specs.Told.{stops_node}
 use Rattle.p2p_log_rules.specs.Told.{told}
 
 -- ---- nodes
 
--- whether it is told that the node runs
-abbrev pub runs_node : ℕ → Telling → Bool
-runs_node n (telling.node_started m at) = m == n
-runs_node n _ = false
+abbrev pub starts_node : ℕ → Telling → Bool
+starts_node n (telling.node_started m at) = m == n
+starts_node n _ = false
 
 -- whether the node has started
+unfoldable pub is_started : List Entry → ℕ → Bool
+is_started log n = list_any (starts_node n) (told log)
+
+-- whether it has stopped
+unfoldable pub is_stopped : List Entry → ℕ → Bool
+is_stopped log n = list_any (stops_node n) (told log)
+
+-- whether it is up: it has started, and has not stopped since
 unfoldable pub is_up : List Entry → ℕ → Bool
-is_up log n = list_any (runs_node n) (told log)
+is_up log n = is_started log n && not (is_stopped log n)
 
 -- the latest of the moments of these
 abbrev pub latest_moment : List Event → ℕ

@@ -1,27 +1,19 @@
 -- The handshakes of a node that have not ended, and what they took, by what was told.
-use Rattle.std.specs.Prelude.{ℕ, ◌==◌, ◌&&◌, Bool, false, cond, List, Option, Some, None}
+use Rattle.std.specs.Prelude.{ℕ, ◌==◌, ◌&&◌, Bool, false, List}
 use Rattle.std.specs.List.{list_any}
 use Rattle.p2p_log.specs.declared.item.Item.{Item}
 use Rattle.p2p_log.specs.declared.entry.Entry.{Entry}
 pub use Rattle.p2p_log_rules.specs.HandshakeSteps.{ends_handshake, takes_acceptance, takes_exchange, source_of, source_at, Peer, peer_of, peer_at}
-use Rattle.p2p_log_rules.specs.Standing.{standing}
 use Rattle.p2p_log_rules.specs.Tellings.{Telling, any_or}
 use Rattle.p2p_log_rules.specs.Tellings as telling
-use Rattle.p2p_log_rules.specs.Told.{told}
+pub use Rattle.p2p_log_rules.specs.Told.{begins_handshake, ends_named}
+use Rattle.p2p_log_rules.specs.Told.{told, handshakes_in}
 
 -- ---- those that have not ended
 
-abbrev pub begins_handshake : ℕ → Telling → Option ℕ
-begins_handshake n (telling.handshake_begun m h) = cond (m == n) (Some h) None
-begins_handshake n _ = None
-
-abbrev pub ends_named : ℕ → ℕ → Telling → Bool
-ends_named n name (telling.handshake_ended m h link) = (m == n) && (name == h)
-ends_named n name _ = false
-
 -- the handshakes of a node that began and have not ended since, by the events that began them, the oldest first
 unfoldable pub handshakes_of : List Entry → ℕ → List ℕ
-handshakes_of log n = standing (begins_handshake n) (ends_named n) (told log)
+handshakes_of log n = handshakes_in (told log) n
 
 -- whether a handshake has begun and has not ended
 abbrev pub is_handshaking : List Entry → ℕ → ℕ → Bool

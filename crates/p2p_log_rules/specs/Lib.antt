@@ -35,6 +35,7 @@ pub mod Rows
 pub mod Serving
 pub mod Spawning
 pub mod Standing
+pub mod Stopping
 pub mod Taking
 pub mod TrackerPuts
 pub mod TrackerRows

@@ -36,11 +36,12 @@ openings_of log link = last_or None (opens_exchange link) (told log)
 
 -- ---- what has their listening ends
 
--- an arrival that waits, then the handshake that its listener began with it, and nothing once that ended
+-- an arrival that waits, then the handshake that its listener began with it, and nothing once that ended, or its node stopped
 abbrev pub has_listening : ℕ → ℕ → Telling → Option (Option ListeningEnd)
 has_listening n link (telling.link_opened m j l to) = cond ((to == n) && (link == l)) (Some (Some listening.Arriving)) None
 has_listening n link (telling.arrival_taken m l handshake) = cond ((m == n) && (link == l)) (Some (option_map listening.Handshake handshake)) None
 has_listening n link (telling.handshake_ended m h l) = cond ((m == n) && (link == l)) (Some None) None
+has_listening n link (telling.node_stopped m) = cond (m == n) (Some None) None
 has_listening n link _ = None
 
 -- what has the listening ends of the links that lead to a node, by the events that made them

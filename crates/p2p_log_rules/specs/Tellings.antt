@@ -15,6 +15,8 @@ use Rattle.p2p_log.specs.declared.event.Rate.{Rate}
 pub data Telling : Type 0 where
   -- a node runs from this moment
   node_started : (node at : ℕ) → Telling
+  -- a node stopped
+  node_stopped : (node : ℕ) → Telling
   -- a node's dialer asked at this moment whom to dial
   list_asked : (node at : ℕ) → Telling
   -- it took whom it may dial, which it had asked at that moment: these, in an order drawn with this seed, and when there may be more

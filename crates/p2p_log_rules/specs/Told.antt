@@ -1,14 +1,16 @@
 -- What an entry tells, and what a log does: the one place that looks at acts.
-use Rattle.std.specs.Prelude.{ℕ, Bool, false, ◌==◌, ◌&&◌, not, cond, List, [], ◌∷◌, ◌++◌, length, Option, Some, None}
+use Rattle.std.specs.Prelude.{ℕ, Bool, false, ◌==◌, ◌&&◌, not, cond, List, [], ◌∷◌, ◌++◌, filter, flat_map, length, Option, Some, None}
 use Rattle.std.specs.List.{list_any}
 use Rattle.p2p_base.specs.declared.key.Key.{Key}
 use Rattle.p2p_address.specs.declared.ip.IpAddr.{IpAddr}
 use Rattle.p2p_address.specs.declared.peer.Ingress.{Ingress}
 use Rattle.p2p_tracker_calls.specs.declared.gates.Reply.TheVariants as gates
 use Rattle.p2p_log.specs.declared.queue.Queue.{Queue}
+use Rattle.p2p_log.specs.declared.queue.Queue.TheVariants as queue
 use Rattle.p2p_log.specs.declared.queue.Side.TheVariants as side
 use Rattle.p2p_log.specs.declared.item.Item.{Item}
 use Rattle.p2p_log.specs.declared.item.Item.TheVariants as item
+use Rattle.p2p_log.specs.declared.item.Envelope.{Envelope}
 use Rattle.p2p_log.specs.declared.entry.Entry.{Entry}
 use Rattle.p2p_log.specs.declared.entry.Reply.{Reply}
 use Rattle.p2p_log.specs.declared.entry.Reply.TheVariants as reply
@@ -16,12 +18,14 @@ use Rattle.p2p_log.specs.declared.event.Act.{Act}
 use Rattle.p2p_log.specs.declared.event.Act.TheVariants as act
 use Rattle.p2p_log.specs.declared.event.Recipients.{Recipients}
 use Rattle.p2p_log.specs.Copies.{keys_of_recipients}
+use Rattle.p2p_log.specs.Lines.{line}
 use Rattle.p2p_log_rules.specs.declared.row.Half.{Half}
 use Rattle.p2p_log_rules.specs.HalfSteps.{is_done, is_end, puts_ping, holds}
-use Rattle.p2p_log_rules.specs.Halves.{half_in}
+use Rattle.p2p_log_rules.specs.Halves.{half_in, half_by}
 use Rattle.p2p_log_rules.specs.HandshakeSteps.{ends_handshake, peer_at}
 use Rattle.p2p_log_rules.specs.Puts.{gave_up, ends_attempt, broke_off, is_answer, turns_away, is_peer_set, arrival_link}
 use Rattle.p2p_log_rules.specs.Quotas.{rate_in, rates_in, keys_by, moments_in}
+use Rattle.p2p_log_rules.specs.Standing.{standing}
 use Rattle.p2p_log_rules.specs.Taking.{taken, state_from}
 use Rattle.p2p_log_rules.specs.Routed.{router_tells, peers_in}
 use Rattle.p2p_log_rules.specs.Tellings.{Telling, Last, last_told, last_or}
@@ -184,11 +188,85 @@ heard_tells n at r _ = []
 abbrev pub admitted_in : List Telling → ℕ → ℕ → ℕ → Recipients → List Key
 admitted_in ts n c at to = keys_by (rate_in (rates_in ts n) c) at (keys_of_recipients (peers_in ts n c) to) (moments_in ts n c)
 
+-- ---- whether a node has stopped, after which it does this no more
+
+abbrev pub stops_node : ℕ → Telling → Bool
+stops_node n (telling.node_stopped m) = m == n
+stops_node n _ = false
+
+abbrev pub unless_stopped : List Telling → ℕ → List Telling → List Telling
+unless_stopped ts n us = when (not (list_any (stops_node n) ts)) us
+
+-- ---- what a stop tells: what ends with its node, and that each end of a link that was had there is dropped
+
+-- the half that is to be made of a message to a spawner
+abbrev pub half_to_be : List Telling → ℕ → Item → Option Half
+half_to_be ts n (item.Spawn key link) = half_by ts n (Some (record { key = key; link = link }))
+half_to_be ts n _ = None
+
+-- the ends of the messages to its spawner, and of the arrivals
+abbrev pub messages_stop : List Telling → ℕ → List Envelope → List Telling
+messages_stop ts n xs = flat_map (λ x. half_dropped (half_to_be ts n x.item)) xs
+
+abbrev pub arrivals_stop : List Envelope → List Telling
+arrivals_stop xs = flat_map (λ x. listening_dropped (arrival_link (x.item ∷ []))) xs
+
+-- the attempts that have not ended, by the events that began them
+abbrev pub begins_attempt : ℕ → Telling → Option ℕ
+begins_attempt n (telling.attempt_begun m k key ingress at) = cond (m == n) (Some k) None
+begins_attempt n _ = None
+
+abbrev pub attempts_in : List Telling → ℕ → List ℕ
+attempts_in ts n = standing (begins_attempt n) (ends n) ts
+
+abbrev pub attempt_stops : List Telling → ℕ → ℕ → List Telling
+attempt_stops ts n k = telling.attempt_ended n k ∷ dialing_dropped (link_in ts n k)
+
+-- the handshakes that have not ended
+abbrev pub begins_handshake : ℕ → Telling → Option ℕ
+begins_handshake n (telling.handshake_begun m h) = cond (m == n) (Some h) None
+begins_handshake n _ = None
+
+abbrev pub ends_named : ℕ → ℕ → Telling → Bool
+ends_named n name (telling.handshake_ended m h link) = (m == n) && (name == h)
+ends_named n name _ = false
+
+abbrev pub handshakes_in : List Telling → ℕ → List ℕ
+handshakes_in ts n = standing (begins_handshake n) (ends_named n) ts
+
+abbrev pub handshake_stops : List Entry → ℕ → ℕ → List Telling
+handshake_stops before n h = telling.handshake_ended n h (peer_at before h).link ∷ telling.end_dropped (peer_at before h).link side.In ∷ []
+
+-- the connections that were made and have not ended
+abbrev pub made_in : ℕ → Telling → List ℕ
+made_in n (telling.connection_made m conn key link) = cond (m == n) (conn ∷ []) []
+made_in n _ = []
+
+abbrev pub is_over : ℕ → ℕ → Telling → Bool
+is_over n conn (telling.connection_ended m c) = (m == n) && (c == conn)
+is_over n conn _ = false
+
+abbrev pub connections_in : List Telling → ℕ → List ℕ
+connections_in ts n = filter (λ conn. not (list_any (is_over n conn) ts)) (flat_map (made_in n) ts)
+
+abbrev pub connection_stops : List Telling → ℕ → ℕ → List Telling
+connection_stops ts n conn = telling.connection_ended n conn ∷ half_dropped (half_in ts n conn)
+
+abbrev pub stop_tells : List Telling → List Entry → ℕ → List Telling
+stop_tells ts before n =
+    telling.node_stopped n
+    ∷ (messages_stop ts n (line before (queue.Spawner n))
+    ++ (arrivals_stop (line before (queue.Arrivals n))
+    ++ (flat_map (attempt_stops ts n) (attempts_in ts n)
+    ++ (flat_map (handshake_stops before n) (handshakes_in ts n)
+    ++ flat_map (connection_stops ts n) (connections_in ts n)))))
+
 -- after these tellings and entries, with this name, at a moment and with a seed; of this reply, which took and put these
 module _ (ts : List Telling) (before : List Entry) (name at seed : ℕ) (r : Reply) (items : List Item) (puts : List (Queue × Item)) where
   abbrev pub act_tells : Act → List Telling
-  act_tells (act.Register c n rate) = telling.channel_registered n c rate ∷ []
-  act_tells (act.Start n) = telling.node_started n at ∷ []
+  act_tells (act.Register c n rate) = unless_stopped ts n (telling.channel_registered n c rate ∷ [])
+  act_tells (act.Start n) = unless_stopped ts n (telling.node_started n at ∷ [])
+  act_tells (act.Stop by_start n) = unless_stopped ts n (stop_tells ts before n)
   act_tells (act.Send bytes c n priority to) = telling.sends_admitted n c at (admitted_in ts n c at to) ∷ []
   act_tells (act.Check c n to) = telling.sends_admitted n c at (admitted_in ts n c at to) ∷ check_tells n name c r
   act_tells (act.SendChecked bytes check priority) = telling.check_spent check ∷ []

@@ -25,7 +25,7 @@ use Rattle.p2p_log.specs.declared.event.Act.TheVariants as act
 use Rattle.p2p_log_rules.specs.declared.row.Row.{Row}
 use Rattle.p2p_log.specs.Lines.{name_of, stays, live, line}
 use Rattle.p2p_log_rules.specs.Connections.{is_ended}
-use Rattle.p2p_log_rules.specs.Facts.{is_up, key_at}
+use Rattle.p2p_log_rules.specs.Facts.{is_up, is_stopped, key_at}
 use Rattle.p2p_log_rules.specs.Rows.{only, mailbox_size_at, ring_ends}
 use Rattle.p2p_log_rules.specs.Tellings.{Telling}
 use Rattle.p2p_log_rules.specs.Tellings as telling
@@ -39,14 +39,16 @@ use Rattle.p2p_log_rules.specs.TrackerPuts.{Put, is_some_of, unblocked_puts, ite
 abbrev pub feedback_by : ℕ → List Envelope → Feedback
 feedback_by size waiting = cond (nat_lt (length waiting) size) feedback.Ok feedback.Backoff
 
--- a question, which waits in the tracker's mailbox under the number of its event
+-- a question, which waits in the tracker's mailbox under the number of its event: that is closed at a node that has stopped
 abbrev pub asked_row : List Config → List Entry → ℕ → Row
-asked_row configs log n = record {
-  reply = reply.Feedback (feedback_by (mailbox_size_at configs n) (line log (queue.Tracker n)));
-  takes = [];
-  puts = (queue.Tracker n, item.Call (length log)) ∷ [];
-  ends = [];
-}
+asked_row configs log n =
+    cond (is_stopped log n) (only (reply.Feedback feedback.Closed))
+    (record {
+      reply = reply.Feedback (feedback_by (mailbox_size_at configs n) (line log (queue.Tracker n)));
+      takes = [];
+      puts = (queue.Tracker n, item.Call (length log)) ∷ [];
+      ends = [];
+    })
 
 abbrev pub most_peers_at : List Config → ℕ → ℕ
 most_peers_at configs n = elim (slice_get configs n) [ None ↦ 0 | Some c ↦ c.max_peers_per_set ]
@@ -128,9 +130,10 @@ abbrev pub oldest_row : Reply → List Envelope → Row
 oldest_row empty [] = only empty
 oldest_row empty (x ∷ _) = taken_row (told_of x.item) x
 
--- the answer was taken, or is there, or is awaited
+-- the answer was taken, or is there, or is awaited: from a node that has stopped there is none to come
 abbrev pub answer_at : List Entry → ℕ → ℕ → Row
-answer_at log n e = cond (was_answered log e) (only reply.Gone) (oldest_row reply.Pending (line log (queue.Answer n e)))
+answer_at log n e =
+    cond (was_answered log e) (only reply.Gone) (oldest_row (cond (is_stopped log n) (reply.PeerSet None) reply.Pending) (line log (queue.Answer n e)))
 
 -- by what the event of the question asked
 abbrev pub answer_by : List Entry → ℕ → Option Act → Row
@@ -140,9 +143,13 @@ answer_by log e _ = only reply.Gone
 abbrev pub answer_row : List Entry → ℕ → Row
 answer_row log e = answer_by log e (asked_by log e)
 
+-- where nothing waits for a subscription, something may come, or not any more
+abbrev pub none_next : List Entry → ℕ → Reply
+none_next log n = cond (is_stopped log n) reply.StreamEnded reply.Pending
+
 abbrev pub next_by : List Entry → ℕ → Option Act → Row
-next_by log e (Some (act.Ask ask.Subscribe n)) = oldest_row reply.Pending (line log (queue.Updates n e))
-next_by log e (Some (act.Ask ask.Blocked n)) = oldest_row reply.Pending (line log (queue.Blocked n e))
+next_by log e (Some (act.Ask ask.Subscribe n)) = oldest_row (none_next log n) (line log (queue.Updates n e))
+next_by log e (Some (act.Ask ask.Blocked n)) = oldest_row (none_next log n) (line log (queue.Blocked n e))
 next_by log e _ = only reply.Gone
 
 abbrev pub next_row : List Entry → ℕ → Row

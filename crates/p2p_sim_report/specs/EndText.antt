@@ -22,6 +22,7 @@ cause_onto out cause.ChannelUnregistered = out ++ codes "\"channel_unregistered\
 cause_onto out cause.MailboxFull = out ++ codes "\"mailbox_full\""
 cause_onto out cause.ReceiverClosed = out ++ codes "\"receiver_closed\""
 cause_onto out cause.LinkCut = out ++ codes "\"link_cut\""
+cause_onto out cause.NodeStopped = out ++ codes "\"node_stopped\""
 
 abbrev pub outcome_onto : List ℕ → Outcome → List ℕ
 outcome_onto out outcome.Delivered = out ++ codes "\"delivered\""

@@ -97,3 +97,5 @@ reply_onto out (reply.Update update) = updated_onto out update
 reply_onto out (reply.Blocked keys) = blocked_onto out keys
 reply_onto out (reply.Gates told) = gates_onto out told
 reply_onto out (reply.Ended why) = ended_onto out why
+reply_onto out reply.NetworkClosed = out ++ codes "\"network_closed\""
+reply_onto out reply.StreamEnded = out ++ codes "\"stream_ended\""

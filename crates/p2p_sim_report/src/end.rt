@@ -20,6 +20,7 @@ fn put_cause(out: &mut String, cause: Cause) -> Result<(), AllocError>
         Cause::MailboxFull => put(out, "\"mailbox_full\""),
         Cause::ReceiverClosed => put(out, "\"receiver_closed\""),
         Cause::LinkCut => put(out, "\"link_cut\""),
+        Cause::NodeStopped => put(out, "\"node_stopped\""),
     }
 }
 

@@ -178,6 +178,8 @@ impl ToText for Reply {
             Reply::Blocked(keys) => put_blocked(out, keys.as_slice()),
             Reply::Gates(told) => put_gates(out, *told),
             Reply::Ended(why) => put_ended(out, *why),
+            Reply::NetworkClosed => put(out, "\"network_closed\""),
+            Reply::StreamEnded => put(out, "\"stream_ended\""),
         }
     }
 }
