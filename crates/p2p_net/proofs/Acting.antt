@@ -26,7 +26,7 @@ use Rattle.p2p_log_laws.proofs.OneConnection.{connections_are_one}
 use Rattle.p2p_net_links.specs.Stands.{LinksStand}
 use Rattle.p2p_net_links.specs.declared.links.Links.{Links}
 use Rattle.p2p_net_tracker.specs.Stands.{AsksRun}
-use Rattle.p2p_net_node.specs.Places.{Part, same_part, at, parts_of, parts_named, names_links, places_at, same_place, names, node_of}
+use Rattle.p2p_net_node.specs.Places.{Part, tracker, same_part, at, parts_of, parts_named, names_links, places_at, same_place, names, node_of}
 use Rattle.p2p_net.specs.Acts.{NodeDoes}
 use Rattle.p2p_net.specs.Events.{OneDoes, Meets, DoesOn, WorldDoes}
 use Rattle.p2p_net_node.specs.Meetings.{meeting_of}
@@ -35,7 +35,7 @@ use Rattle.p2p_net_node.specs.declared.meeting.Meeting.TheVariants as meeting
 use Rattle.p2p_net_node.specs.Stands.{NodeStands, WorldStands}
 use Rattle.p2p_net_node.specs.declared.node.Node.{Node}
 use Rattle.p2p_net_node.proofs.Nodes.{slice_get-set, below}
-use Rattle.p2p_net_node.proofs.Frames.{part_frame}
+use Rattle.p2p_net_node.proofs.Frames.{lasts_unnamed, part_frame}
 use Rattle.p2p_net_node.proofs.Performing.{asked, Performs, Simulates}
 use Rattle.p2p_net_dialing.proofs.DialAnswers.{refuse_performs}
 use Rattle.p2p_net_dialing.proofs.Arrivals.{link_simulates}
@@ -73,6 +73,7 @@ pub node_performs : (configs : List Config) (log : List Entry) (moment seed : �
     → Performs configs log (asked moment seed a) (node_of log a) y links r
 node_performs configs log moment seed (act.Register c n rate) x y l links r s t lawful valid late one d = register_performs configs log moment seed n c rate x y l links r s t valid d.0 d.1
 node_performs configs log moment seed (act.Start n) x y l links r s t lawful valid late one d = start_performs configs log moment seed n x y l links r s t d.0 d.1
+node_performs configs log moment seed (act.Stop by_start n) x y l links r s t lawful valid late one d = cc
 node_performs configs log moment seed (act.Send bytes c n priority to) x y l links r s t lawful valid late one d =
     send_performs configs log moment seed n c bytes priority to x y l links r s t (lists_are_current configs (events_of log) log lawful) late d.1 d.0
 node_performs configs log moment seed (act.Check c n to) x y l links r s t lawful valid late one d =
@@ -120,7 +121,7 @@ others_unnamed log a p m one ne = unnamed_at (names_links a) (parts_named a) p (
 -- a node that an act does not name
 node_frame : (configs : List Config) (log : List Entry) (ev : Event) (m : ℕ) (z : Node) → NodeStands configs log m z → ((p : Part) → names log ev.act (at p m) ≡ false) → is_begun log m (length log) ≡ false
     → NodeStands configs (log ++ effect configs log ev ∷ []) m z
-node_frame configs log ev m z s away fresh = record { own = s.own; each = λ p. part_frame p configs log ev m z (s.each p) (away p) (λ makes. fresh) }
+node_frame configs log ev m z s away fresh = record { own = s.own; lasts = lasts_unnamed configs log ev m s.lasts (away tracker); each = λ p. part_frame p configs log ev m z (s.each p) (away p) (λ makes. fresh) }
 
 one_each :
     (configs : List Config) (log : List Entry) (ev : Event) (nodes : List Node) (n : ℕ) (y : Node) (l links : Links) (r : Row) → WorldStands configs log nodes l → Performs configs log ev n y links r

@@ -25,6 +25,7 @@ use Rattle.p2p_net_dialing.specs.Dialing.{DialerStepsBy, ListenerStepsBy, Handsh
 abbrev pub NodeDoes : ℕ → ℕ → ℕ → ℕ → Act → Node → Node → Links → Links → Row → Type 0
 NodeDoes k n at seed (act.Register c m rate) old new l links r = Registers c rate old new r × (links ≡ l)
 NodeDoes k n at seed (act.Start m) old new l links r = Starts k at old new r × (links ≡ l)
+NodeDoes k n at seed (act.Stop by_start m) old new l links r = Stays old new r (only reply.Idle) × (links ≡ l)
 NodeDoes k n at seed (act.Send bytes c m priority to) old new l links r = Sends k c at priority bytes to old new r × (links ≡ l)
 NodeDoes k n at seed (act.Check c m to) old new l links r = Checks k c at to old new r × (links ≡ l)
 NodeDoes k n at seed (act.SendChecked bytes check priority) old new l links r = SendsChecked k check priority bytes old new r × (links ≡ l)

@@ -106,6 +106,7 @@ fn act_at(node: &mut Node, turn: Turn, links: &mut Links, event: &Event) -> Resu
     match &event.act {
         Act::Register { channel, quota, .. } => Ok(register(node, turn, *channel, *quota)?),
         Act::Start { .. } => Ok(start(node, turn, event.at)?),
+        Act::Stop { .. } => Ok(only(turn.alloc, Reply::Idle)),
         Act::Send {
             bytes,
             channel,

@@ -70,6 +70,7 @@ pub(crate) fn node_of(log: &[Entry], act: &Act) -> u64
     match act {
         Act::Register { node, .. } => *node,
         Act::Start { node } => *node,
+        Act::Stop { node, .. } => *node,
         Act::Send { node, .. } => *node,
         Act::Check { node, .. } => *node,
         Act::SendChecked { check, .. } => node_checking(log, *check),

@@ -111,6 +111,7 @@ fn may_ask(log: &[Entry], node: &Node, act: &Act) -> bool
     match act {
         Act::Register { channel, quota, .. } => may_register(node, *channel, *quota),
         Act::Start { .. } => !node.is_started(),
+        Act::Stop { .. } => false,
         Act::SendChecked { check, .. } => checks(log, *check),
         Act::SendStep { conn, node } => is_spawned(log, *conn, *node),
         Act::RecvStep { conn, node } => is_spawned(log, *conn, *node),

@@ -35,7 +35,7 @@ unfolding row
 ask_performs configs log moment seed n what x y l ls r s t is alone kept =
     let now = after_asking x.tracker (length log) what in
     track_alone configs log (asked moment seed (act.Ask what n)) n x y l ls r s t (record { parts = λ p out. not_among (tracker ∷ []) p n n out; unlinked = refl; spawns = refl }) (alone_by now x y alone) kept
-    (ask_stands configs log moment seed n what x.tracker y.tracker r (s.each tracker) is (has_tracker now x y alone))
+    (ask_stands configs log moment seed n what x.tracker y.tracker r (s.each tracker) s.lasts is (has_tracker now x y alone))
 
 -- ---- what those who asked take
 
@@ -70,7 +70,7 @@ answer_performs configs log moment seed e x y l ls r s t may answers alone kept 
     let n = node_asked (slice_get log e) in
     let question = set_asked configs log e may in
     track_alone configs log (asked moment seed (act.Answer e)) n x y l ls r s t (record { parts = λ p out. not_among (tracker ∷ []) p n n out; unlinked = refl; spawns = refl }) alone kept
-    (tracker_answers configs log moment seed n e question.0 x.tracker y.tracker r (s.each tracker) question.1 answers)
+    (tracker_answers configs log moment seed n e question.0 x.tracker y.tracker r (s.each tracker) s.lasts question.1 answers)
 
 pub next_performs : (configs : List Config) (log : List Entry) (moment seed e : ℕ) (x y : Node) (l ls : Links) (r : Row) → NodeStands configs log (node_asked (slice_get log e)) x → LinksStand configs log l
     → may_act configs (events_of log) (act.Next e) ≡ true → Continues (node_asked (slice_get log e)) e x.tracker y.tracker r → Tracks y.tracker x y → ls ≡ l
@@ -80,6 +80,6 @@ next_performs configs log moment seed e x y l ls r s t may goes alone kept =
     let n = node_asked (slice_get log e) in
     track_alone configs log (asked moment seed (act.Next e)) n x y l ls r s t (record { parts = λ p out. not_among (tracker ∷ []) p n n out; unlinked = refl; spawns = refl }) alone kept
     (elim (subscription_asked configs log e may) [
-      | inl updates ↦ tracker_updates configs log moment seed n e x.tracker y.tracker r (s.each tracker) updates goes
-      | inr blocked ↦ tracker_sets configs log moment seed n e x.tracker y.tracker r (s.each tracker) blocked goes
+      | inl updates ↦ tracker_updates configs log moment seed n e x.tracker y.tracker r (s.each tracker) s.lasts updates goes
+      | inr blocked ↦ tracker_sets configs log moment seed n e x.tracker y.tracker r (s.each tracker) s.lasts blocked goes
     ])

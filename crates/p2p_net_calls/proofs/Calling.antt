@@ -15,7 +15,7 @@ use Rattle.p2p_log.specs.declared.event.Rate.{Rate}
 use Rattle.p2p_log.specs.declared.event.Act.TheVariants as act
 use Rattle.p2p_log.specs.Lines.{line, name_of, placed, stands_in, ended_item}
 use Rattle.p2p_log_rules.specs.declared.row.Row.{Row}
-use Rattle.p2p_log_rules.specs.Facts.{events_of, has_started, registers_at, capacity_for, channels, capacity_in, sum_capacities, is_up}
+use Rattle.p2p_log_rules.specs.Facts.{events_of, has_started, registers_at, capacity_for, channels, capacity_in, sum_capacities, is_up, is_stopped}
 use Rattle.p2p_log_rules.specs.Effect.{only, row, effect, entry_of, start_row, read_row, oldest_read, recv_row, mailbox_size_at, router_capacity}
 use Rattle.p2p_log_rules.specs.Listening.{quota_of}
 use Rattle.p2p_log_rules.specs.Valid.{fits_usize, is_quota, may_register, may_act}
@@ -46,7 +46,7 @@ use Rattle.p2p_net_node.proofs.EachPart.{with_parts, each_part, not_among}
 use Rattle.p2p_net_node.proofs.Frames.{links_kept}
 use Rattle.p2p_net_node.proofs.Receivers.{admits_apart, sends_apart, closes_apart}
 use Rattle.p2p_net_node.proofs.Routers.{hears_aside, RouterStands-moved, is_unbound-before}
-use Rattle.p2p_net_node.proofs.Performing.{asked, Performs, stays_performs, line-still}
+use Rattle.p2p_net_node.proofs.Performing.{asked, Performs, effect-still, stays_performs, line-still}
 
 -- ---- register
 
@@ -74,11 +74,11 @@ register_performs configs log at seed n c rate x y l links r s t valid d kept =
     let capacity = capacity_for (slice_get configs n) rate in
     let halves =
     and_parts ((not (has_started (events_of log) n) && not (is_some (capacity_in regs c))) && is_quota rate) (fits_usize capacity && fits_usize (mailbox_size_at configs n + (sum_capacities regs + capacity)))
-    (ap (λ l. ((not (has_started (events_of log) n) && not (is_some (capacity_in l c))) && is_quota rate) && (fits_usize capacity && fits_usize (mailbox_size_at configs n + (sum_capacities l + capacity)))) (channels-asked configs log n) ∙ may)
+    (ap (λ l. ((not (has_started (events_of log) n) && not (is_some (capacity_in l c))) && is_quota rate) && (fits_usize capacity && fits_usize (mailbox_size_at configs n + (sum_capacities l + capacity)))) (channels-asked configs log n s.lasts) ∙ may)
     in
     let named = and_parts (not (has_started (events_of log) n) && not (is_some (capacity_in regs c))) (is_quota rate) halves.0 in
     let fresh = and_parts (not (has_started (events_of log) n)) (not (is_some (capacity_in regs c))) named.0 in
-    let early : is_up log n ≡ false = is_up-asked log n ∙ not-true (has_started (events_of log) n) fresh.0 in
+    let early : is_up log n ≡ false = is_up-asked log n s.lasts ∙ not-true (has_started (events_of log) n) fresh.0 in
     let absent : capacity_in regs c ≡ None = none_in (capacity_in regs c) (not-true (is_some (capacity_in regs c)) fresh.1) in
     let fit = (and_parts (fits_usize capacity) (fits_usize (mailbox_size_at configs n + (sum_capacities regs + capacity))) halves.1).1 in
     let room : mailbox_size_at configs n + (x.channels.total + k) < 2 ^ 64 =
@@ -89,17 +89,20 @@ register_performs configs log at seed n c rate x y l links r s t valid d kept =
     let chan_is : y.channels ≡ registered_with x.channels c k (quota_of rate) = ap (λ (z : Node). z.channels) parts in
     let conn_is : y.connections ≡ x.connections = ap (λ (z : Node). z.connections) parts in
     let at_number : x.router.number ≡ n = rout.number in
+    let lasts : is_stopped log x.router.number ≡ false = ap (is_stopped log) at_number ∙ s.lasts in
+    let due : row configs log at seed (act.Register c n rate) ≡ only (reply.Capacity capacity) = ap (λ b. cond b (only reply.Gone) (only (reply.Capacity capacity))) s.lasts in
+    let still = effect-still configs log ev (reply.Capacity capacity) due in
     record {
-      row_is = d.0 ∙ ap (λ j. only (reply.Capacity j)) amount;
+      row_is = d.0 ∙ (ap (λ j. only (reply.Capacity j)) amount ∙ sym due);
       node =
           each_part configs log ev n x y (place.channels ∷ place.router ∷ []) s (subst (λ z. z ≡ with_parts (place.channels ∷ place.router ∷ []) x z) (sym parts) refl)
-          (λ p out. not_among (place.channels ∷ place.router ∷ []) p n n out) refl (
+          (λ p out. not_among (place.channels ∷ place.router ∷ []) p n n out) refl refl (
             subst (ChannelsStand configs (log ++ e ∷ []) n) (sym chan_is)
-                (channels_registered configs log e n c k rate x.channels chan refl amount (chan.capacities c ∙ absent) room (λ f. line-kept_all log e (queue.Channel n f) refl refl refl) (quota_is rate named.1) (admits_apart configs log e n (act.Register c n rate) refl (λ d. refl)) (sends_apart log e n (act.Register c n rate) refl (refl, refl))),
+                (channels_registered configs log e n c k rate x.channels chan s.lasts refl amount (chan.capacities c ∙ absent) room (λ f. line-still log e (reply.Capacity capacity) (queue.Channel n f) still) (quota_is rate named.1) (admits_apart configs log e n (act.Register c n rate) refl (λ d. refl)) (sends_apart log e n (act.Register c n rate) refl (refl, refl))),
             (
               RouterStands-moved configs log e n x.router y.router rout (hears_aside log e n (act.Register c n rate) refl refl)
-                  (sub.stands configs log e rout.stands (is_unbound-before configs log n x.router rout early)
-                  (record { rate = rate; is = ap (λ j. act.Register c j rate) (sym at_number); takes = refl; puts = refl; ends = refl })
+                  (sub.stands configs log e rout.stands lasts (is_unbound-before configs log n x.router rout early)
+                  (record { rate = rate; is = ap (λ j. act.Register c j rate) (sym at_number); takes = still.takes; puts = still.puts; ends = still.ends })
                   (ap (λ j. capacity_in (channels configs log j) c) at_number ∙ absent))
                   (ap (λ (z : Router). z.number) sub.rest) (ap (λ (z : Router). z.peers) sub.rest),
               tt,
@@ -115,9 +118,6 @@ register_performs configs log at seed n c rate x y l links r s t valid d kept =
     counted : (m t c total k : ℕ) → total ≡ t → k ≡ c → nat_lt (m + (t + c)) (2 ^ 64) ≡ true → m + (total + k) < 2 ^ 64
     counted m t c total k a b h = grind (arith, nat_tests)
 
-    line-kept_all : (log : List Entry) (e : Entry) (q : Queue) → e.takes ≡ [] → e.puts ≡ [] → e.ends ≡ [] → line (log ++ e ∷ []) q ≡ line log q
-    line-kept_all log e q a b c = line-still log e e.reply q (record { reply = refl; takes = a; puts = b; ends = c })
-
 -- ---- start
 
 pub start_performs : (configs : List Config) (log : List Entry) (at seed n : ℕ) (x y : Node) (l links : Links) (r : Row) → NodeStands configs log n x → LinksStand configs log l
@@ -131,7 +131,8 @@ start_performs configs log at seed n x y l links r s t d kept =
     let parts : y ≡ record x { router = y.router; dialing = started x.config at x.dialing } = d.0 in
     let calls = d.1 in
     let at_number : x.router.number ≡ n = rout.number in
-    let row_is : r ≡ start_row configs log n = calls.row configs log rout.stands ∙ ap (start_row configs log) at_number in
+    let lasts : is_stopped log x.router.number ≡ false = ap (is_stopped log) at_number ∙ s.lasts in
+    let row_is : r ≡ start_row configs log n = calls.row configs log rout.stands lasts ∙ ap (start_row configs log) at_number in
     let size : x.config.mailbox_size ≡ mailbox_size_at configs n = sym (ap (λ (o : Option Config). elim o [ None ↦ 0 | Some c ↦ c.mailbox_size ]) s.own.config) in
     let places : x.config.mailbox_size + x.channels.total ≡ router_capacity configs log x.router.number =
     ap (λ k. k + x.channels.total) size
@@ -141,12 +142,12 @@ start_performs configs log at seed n x y l links r s t d kept =
       row_is = row_is;
       node =
           each_part configs log ev n x y (place.router ∷ place.dialer ∷ []) s (subst (λ z. z ≡ with_parts (place.router ∷ place.dialer ∷ []) x z) (sym parts) refl)
-          (λ p out. not_among (place.router ∷ place.dialer ∷ []) p n n out) refl (
+          (λ p out. not_among (place.router ∷ place.dialer ∷ []) p n n out) refl refl (
             RouterStands-moved configs log e n x.router y.router rout (hears_aside log e n (act.Start n) refl refl)
-                (subst (λ (z : Row). StandsFor configs (log ++ entry_of ev z ∷ []) y.router) row_is (calls.stands configs log ev rout.stands refl (ap act.Start (sym at_number)) places))
+                (subst (λ (z : Row). StandsFor configs (log ++ entry_of ev z ∷ []) y.router) row_is (calls.stands configs log ev rout.stands lasts refl (ap act.Start (sym at_number)) places))
                 (ap (λ (z : Router). z.number) calls.rest) (ap (λ (z : Router). z.peers) calls.rest),
             (
-              subst (DialerStands configs (log ++ e ∷ []) n) (sym (ap (λ (z : Node). z.dialing) parts)) (dialer_starts configs log e n x.config x.dialing (s.each place.dialer) s.own.config refl (λ k. line-untouched configs log ev (queue.Attempt n k) refl refl refl)),
+              subst (DialerStands configs (log ++ e ∷ []) n) (sym (ap (λ (z : Node). z.dialing) parts)) (dialer_starts configs log e n x.config x.dialing (s.each place.dialer) s.own.config refl s.lasts (λ k. line-untouched configs log ev (queue.Attempt n k) refl refl refl)),
               tt,
             ),
           );
@@ -156,13 +157,15 @@ start_performs configs log at seed n x y l links r s t d kept =
 -- ---- recv
 
 -- the row of a reader is that of its channel
-recv_is : (configs : List Config) (log : List Entry) (n c : ℕ) (ch : Channels) → ChannelsStand configs log n ch → has_reader ch c ≡ true → oldest_read (waiting ch.waiting c) ≡ recv_row configs log c n
-recv_is configs log n c ch s has =
-    ap oldest_read (s.waits c) ∙ sym (ap (λ b. cond b (oldest_read (line log (queue.Channel n c))) (only reply.Gone)) (sym (reader_is configs log n c ch s) ∙ has))
+recv_is : (configs : List Config) (log : List Entry) (n c : ℕ) (ch : Channels) → ChannelsStand configs log n ch → is_stopped log n ≡ false → has_reader ch c ≡ true → oldest_read reply.Pending (waiting ch.waiting c) ≡ recv_row configs log c n
+recv_is configs log n c ch s lasts has =
+    ap (oldest_read reply.Pending) (s.waits c)
+    ∙ sym (ap (λ b. cond b (oldest_read (cond (is_stopped log n) reply.NetworkClosed reply.Pending) (line log (queue.Channel n c))) (only reply.Gone)) (sym (reader_is configs log n c ch s) ∙ has)
+    ∙ ap (λ b. oldest_read (cond b reply.NetworkClosed reply.Pending) (line log (queue.Channel n c))) lasts)
 
 -- the channels, once the first item of one was read
 read_stands : (configs : List Config) (log : List Entry) (e : Entry) (n c : ℕ) (ch : Channels) (xs : List Envelope) → ChannelsStand configs log n ch → waiting ch.waiting c ≡ xs → e.event.act ≡ act.Recv c n
-    → e.takes ≡ (oldest_read xs).takes → e.puts ≡ (oldest_read xs).puts → e.ends ≡ (oldest_read xs).ends → ChannelsStand configs (log ++ e ∷ []) n (taken_on (message_first (slice_get xs 0)) c ch)
+    → e.takes ≡ (oldest_read reply.Pending xs).takes → e.puts ≡ (oldest_read reply.Pending xs).puts → e.ends ≡ (oldest_read reply.Pending xs).ends → ChannelsStand configs (log ++ e ∷ []) n (taken_on (message_first (slice_get xs 0)) c ch)
 read_stands configs log e n c ch [] s is acts takes puts ends =
     channels_moved configs log e n ch ch.waiting s (ap (registers_at configs n) acts) (admits_apart configs log e n (act.Recv c n) acts (λ d. refl)) (sends_apart log e n (act.Recv c n) acts (refl, refl)) (closes_apart log e n (act.Recv c n) acts refl)
     (λ f. s.waits f ∙ sym (line-still log e e.reply (queue.Channel n f) (record { reply = refl; takes = takes; puts = puts; ends = ends })))
@@ -189,18 +192,18 @@ unfolding effect row
 read_on_performs configs log at seed n c false x y l links r s t has d kept =
     let chan : ChannelsStand configs log n x.channels = s.each place.channels in
     stays_performs configs log (asked at seed (act.Recv c n)) n x y l links r reply.Gone s t
-    (ap (λ b. cond b (oldest_read (line log (queue.Channel n c))) (only reply.Gone)) (sym (reader_is configs log n c x.channels chan) ∙ has)) refl d.0 d.1 kept
+    (ap (λ b. cond b (oldest_read (cond (is_stopped log n) reply.NetworkClosed reply.Pending) (line log (queue.Channel n c))) (only reply.Gone)) (sym (reader_is configs log n c x.channels chan) ∙ has)) refl d.0 d.1 kept
 read_on_performs configs log at seed n c true x y l links r s t has d kept =
     let ev = asked at seed (act.Recv c n) in
     let e = effect configs log ev in
     let chan : ChannelsStand configs log n x.channels = s.each place.channels in
     let parts : y ≡ record x { channels = read_from c x.channels } = d.1 in
-    let is = recv_is configs log n c x.channels chan has in
+    let is = recv_is configs log n c x.channels chan s.lasts has in
     record {
       row_is = d.0 ∙ is;
       node =
           each_part configs log ev n x y (place.channels ∷ []) s (subst (λ z. z ≡ with_parts (place.channels ∷ []) x z) (sym parts) refl)
-          (λ p out. not_among (place.channels ∷ []) p n n out) refl (
+          (λ p out. not_among (place.channels ∷ []) p n n out) refl refl (
             subst (ChannelsStand configs (log ++ e ∷ []) n) (sym (ap (λ (z : Node). z.channels) parts))
                 (read_stands configs log e n c x.channels (waiting x.channels.waiting c) chan refl refl (ap (λ (z : Row). z.takes) (sym is)) (ap (λ (z : Row). z.puts) (sym is)) (ap (λ (z : Row). z.ends) (sym is))),
             tt,

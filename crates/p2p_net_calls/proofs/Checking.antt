@@ -98,7 +98,7 @@ module _ (configs : List Config) (log : List Entry) (at seed n c : ℕ) (to : Re
   routes = s.each place.router
 
   done : (ch : Channels) (router : Router) → r ≡ row configs log at seed a → y ≡ record x { channels = ch; router = router } → ChannelsStand configs (log ++ e ∷ []) n ch → RouterStands configs (log ++ e ∷ []) n router → Done
-  done ch router = built configs log ev n x y l links r ch router s t kept (λ p out. not_among named p n n out) refl refl
+  done ch router = built configs log ev n x y l links r ch router s t kept (λ p out. not_among named p n n out) refl refl refl
 
   -- on a channel that is not registered
   gone : capacity_at x.channels c ≡ None → row configs log at seed a ≡ only reply.Gone → r ≡ only reply.Gone → y ≡ x → Done
@@ -108,7 +108,7 @@ module _ (configs : List Config) (log : List Entry) (at seed n c : ℕ) (to : Re
       done x.channels x.router (told ∙ sym is) same
       (channels_unasked configs log e n c to x.channels chan refl (sent_moments-asked log e n c to (Asks.checks refl)) (admits_apart configs log e n a refl (λ d. refl)) (λ d. line-untouched configs log ev (queue.Channel n d) refl refl refl)
       (λ name. checked_at-unmade log e n name c n to refl (ap (λ (z : Row). check_tells n (length log) c z.reply) is)) (closes_apart log e n a refl refl) has)
-      (RouterStands-idle configs log e n x.router (record { no_step = unrouted_apart log e n refl; no_channel = refl; no_start = refl; no_end = λ conn. ends_untold log e n conn a refl refl }) (hears_aside log e n a refl refl) still.takes still.puts still.ends routes)
+      (RouterStands-idle configs log e n x.router (record { no_step = unrouted_apart log e n refl; no_channel = refl; no_turn = refl; no_end = λ conn. ends_untold log e n conn a refl refl }) (hears_aside log e n a refl refl) still.takes still.puts still.ends routes)
 
   -- the channels, whose quota was asked, with these checks
   channels_now : (m : List (ℕ × Checked)) → ((name : ℕ) → table.at m name ≡ checked_at (log ++ e ∷ []) n name) → ChannelsStand configs (log ++ e ∷ []) n (record (keys_metered c keys at x.channels) { checks = m })
@@ -124,7 +124,7 @@ module _ (configs : List Config) (log : List Entry) (at seed n c : ℕ) (to : Re
   router_now rep new is over number peers =
       RouterStands-moved configs log e n x.router new routes (hears_aside log e n a refl refl)
       (subst (λ (z : Row). StandsFor configs (log ++ entry_of ev z ∷ []) new) (sym is)
-      (over_gone configs log (entry_of ev (taking names (only rep))) new names over (record { no_step = unrouted_apart log (entry_of ev (taking names (only rep))) new.number refl; no_channel = refl; no_start = refl; no_end = λ conn. ends_untold log (entry_of ev (taking names (only rep))) new.number conn a refl refl }) (append-nil names) refl))
+      (over_gone configs log (entry_of ev (taking names (only rep))) new names over (record { no_step = unrouted_apart log (entry_of ev (taking names (only rep))) new.number refl; no_channel = refl; no_turn = refl; no_end = λ conn. ends_untold log (entry_of ev (taking names (only rep))) new.number conn a refl refl }) (append-nil names) refl))
       number peers
 
   module _ (mid : Node) (o : Offered) (row_now : Row) (h : IsOffered configs log n c at to x mid o) (is : r ≡ listed o.list row_now) where
@@ -202,7 +202,7 @@ module _ (configs : List Config) (log : List Entry) (at seed check : ℕ) (bytes
 
   done_with : (ch : Channels) (router : Router) → r ≡ row configs log at seed spends → y ≡ record x { channels = ch; router = router } → ChannelsStand configs (log ++ entry ∷ []) n ch → RouterStands configs (log ++ entry ∷ []) n router
       → Performs configs log spent n y links r
-  done_with ch router = built configs log spent n x y l links r ch router s t kept (λ p out. not_among named p n n out) refl refl
+  done_with ch router = built configs log spent n x y l links r ch router s t kept (λ p out. not_among named p n n out) refl refl refl
 
   module _ (left : List (ℕ × Checked)) (gone : table.AreBut check None x.channels.checks left) where
     abbrev mid : Node
@@ -226,7 +226,7 @@ module _ (configs : List Config) (log : List Entry) (at seed check : ℕ) (bytes
     unsent rep due told same =
         let still = effect-still configs log spent rep due in
         done_with (record x.channels { checks = left }) x.router (told ∙ sym due) same channels_then
-        (RouterStands-idle configs log entry n x.router (record { no_step = unrouted_apart log entry n refl; no_channel = refl; no_start = refl; no_end = λ conn. ends_untold log entry n conn spends refl refl }) (hears_aside log entry n spends refl refl) still.takes still.puts still.ends routes_then)
+        (RouterStands-idle configs log entry n x.router (record { no_step = unrouted_apart log entry n refl; no_channel = refl; no_turn = refl; no_end = λ conn. ends_untold log entry n conn spends refl refl }) (hears_aside log entry n spends refl refl) still.takes still.puts still.ends routes_then)
 
     module _ (c : Checked) where
       abbrev accepted : Reply
@@ -269,7 +269,7 @@ module _ (configs : List Config) (log : List Entry) (at seed check : ℕ) (bytes
           done_with (record x.channels { checks = left }) y.router (row_is ∙ sym due_now) d.0 channels_then
           (RouterStands-moved configs log entry n x.router y.router routes_then (hears_aside log entry n spends refl refl)
           (subst (λ (z : Row). StandsFor configs (log ++ entry_of spent z ∷ []) y.router) (same_row ∙ sym due_now)
-          (over_taking configs log spent y.router [] handed over_now (record { no_step = unrouted_apart log (entry_of spent (taking [] handed)) y.router.number refl; no_channel = refl; no_start = refl; no_end = λ conn. ends_untold log (entry_of spent (taking [] handed)) y.router.number conn spends refl refl }) takes))
+          (over_taking configs log spent y.router [] handed over_now (record { no_step = unrouted_apart log (entry_of spent (taking [] handed)) y.router.number refl; no_channel = refl; no_turn = refl; no_end = λ conn. ends_untold log (entry_of spent (taking [] handed)) y.router.number conn spends refl refl }) takes))
           (ap (λ (z : Router). z.number) calls.rest) (ap (λ (z : Router). z.peers) calls.rest))
 
   -- what the node has of the check, by the log
@@ -282,9 +282,11 @@ module _ (configs : List Config) (log : List Entry) (at seed check : ℕ) (bytes
   unfolding row
   by_check None is left gone d = unsent left gone reply.Gone (ap (spent_row configs log bytes priority) is) d.0 d.1
   by_check (Some c) is left gone d =
+      let due : Row = handed left gone (record { channel = c.channel; keys = c.keys }) in
       by_size left gone (record { channel = c.channel; keys = c.keys }) (nat_lt x.config.max_message_size (length bytes)) refl
       (ap (spent_row configs log bytes priority) is
-      ∙ ap (λ m. spent_row configs log bytes priority (Some (record c { node = m }))) (sym (checking_is log check c is))) d
+      ∙ (ap (λ m. spent_row configs log bytes priority (Some (record c { node = m }))) (sym (checking_is log check c is))
+      ∙ ap (λ b. fitting_row (nat_lt (limit_at configs n) (length bytes)) (length bytes) (limit_at configs n) (cond b (only (reply.Outcome (Outcome feedback.Closed) n c.channel c.keys)) due)) s.lasts)) d
 
   pub send_checked_performs : SendsChecked (length log) check priority bytes x y r → Performs configs log spent n y links r
   send_checked_performs d =

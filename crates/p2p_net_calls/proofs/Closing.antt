@@ -84,7 +84,7 @@ close_on_performs configs log at seed n c true x y l links r s t has d kept =
       row_is = d.0 ∙ (ap closed_row (chan.waits c) ∙ sym is);
       node =
           each_part configs log ev n x y (place.channels ∷ []) s (subst (λ z. z ≡ with_parts (place.channels ∷ []) x z) (sym d.1) refl)
-          (λ p out. not_among (place.channels ∷ []) p n n out) refl (
+          (λ p out. not_among (place.channels ∷ []) p n n out) refl refl (
             subst (λ (z : Row). ChannelsStand configs (log ++ entry_of ev z ∷ []) n y.channels) (sym is)
                 (subst (ChannelsStand configs (log ++ entry_of ev due ∷ []) n) (sym (ap (λ (z : Node). z.channels) d.1)) (now_stand configs log at seed n c x.channels chan)),
             tt,

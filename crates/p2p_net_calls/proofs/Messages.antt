@@ -19,7 +19,7 @@ use Rattle.p2p_log_rules.specs.declared.row.Row.{Row}
 use Rattle.p2p_log_rules.specs.Admitting.{keys_by, rate_at, sent_moments, offered, keys_admitted, retry_moment}
 use Rattle.p2p_log_rules.specs.Checking.{checked_at}
 use Rattle.p2p_log_rules.specs.Effect.{row, effect, takes_list}
-use Rattle.p2p_log_rules.specs.Facts.{events_of, latest_moment, registers_at, subscribers, routes, keys_in}
+use Rattle.p2p_log_rules.specs.Facts.{stops, events_of, latest_moment, registers_at, subscribers, routes, keys_in}
 use Rattle.p2p_log_rules.specs.Quotas.{at_places}
 use Rattle.p2p_log_laws.specs.Listed.{ListsAreCurrent}
 use Rattle.p2p_net_router.specs.Peers.{names_taken}
@@ -164,15 +164,15 @@ named = place.channels ∷ place.router ∷ []
 
 pub built :
     (configs : List Config) (log : List Entry) (ev : Event) (n : ℕ) (x y : Node) (l links : Links) (r : Row) (ch : Channels) (router : Router) → NodeStands configs log n x → LinksStand configs log l → links ≡ l
-    → ((p : place.Part) → is_in p named ≡ false → names log ev.act (at p n) ≡ false) → names log ev.act place.links ≡ false → steps_spawner n ev.act ≡ false
+    → ((p : place.Part) → is_in p named ≡ false → names log ev.act (at p n) ≡ false) → names log ev.act place.links ≡ false → steps_spawner n ev.act ≡ false → stops n ev.act ≡ false
     → r ≡ row configs log ev.at ev.seed ev.act → y ≡ record x { channels = ch; router = router } → ChannelsStand configs (log ++ effect configs log ev ∷ []) n ch
     → RouterStands configs (log ++ effect configs log ev ∷ []) n router → Performs configs log ev n y links r
-built configs log ev n x y l links r ch router s t kept unnamed apart spawns is parts channels_now routes_now =
+built configs log ev n x y l links r ch router s t kept unnamed apart spawns goes_on is parts channels_now routes_now =
     let e = effect configs log ev in
     record {
       row_is = is;
       node =
-          each_part configs log ev n x y named s (subst (λ z. z ≡ with_parts named x z) (sym parts) refl) unnamed spawns (
+          each_part configs log ev n x y named s (subst (λ z. z ≡ with_parts named x z) (sym parts) refl) unnamed spawns goes_on (
             subst (ChannelsStand configs (log ++ e ∷ []) n) (sym (ap (λ (z : Node). z.channels) parts)) channels_now,
             (subst (RouterStands configs (log ++ e ∷ []) n) (sym (ap (λ (z : Node). z.router) parts)) routes_now, tt),
           );

@@ -1,5 +1,5 @@
 -- A send: what its channel's quota admits of the keys that it is offered to is handed to the router.
-use Rattle.std.proofs.Common.{◌≡◌, ℕ, ◌≤◌, Bool, true, false, List, [], ◌∷◌, ◌++◌, length, refl, ap, sym, subst, ◌∙◌, append-nil, Option, Some, None}
+use Rattle.std.proofs.Common.{◌≡◌, ℕ, ◌≤◌, Bool, true, false, cond, List, [], ◌∷◌, ◌++◌, length, refl, ap, sym, subst, ◌∙◌, append-nil, Option, Some, None}
 use Rattle.std.specs.Prelude.{filter, nat_le, nat_lt}
 use Rattle.p2p_base.specs.declared.key.Key.{Key}
 use Rattle.p2p_log.specs.declared.config.Config.{Config}
@@ -17,7 +17,7 @@ use Rattle.p2p_log_rules.specs.declared.row.Row.{Row}
 use Rattle.p2p_log_rules.specs.Admitting.{offered, keys_admitted}
 use Rattle.p2p_log_rules.specs.Frames.{frame_of}
 use Rattle.p2p_log_rules.specs.Facts.{events_of, latest_moment, is_up}
-use Rattle.p2p_log_rules.specs.Effect.{only, taking, takes_list, row, effect, entry_of, sent_row, send_keys_row, router_capacity, limit_at, fitting_row}
+use Rattle.p2p_log_rules.specs.Effect.{only, unless_stopped, taking, takes_list, row, effect, entry_of, sent_row, send_keys_row, router_capacity, limit_at, fitting_row}
 use Rattle.p2p_log_rules.proofs.Checks.{checked_at-apart}
 use Rattle.p2p_log_rules.proofs.Sends.{Asks, sent_moments-asked}
 use Rattle.p2p_log_laws.specs.Listed.{ListsAreCurrent}
@@ -82,7 +82,7 @@ module _ (configs : List Config) (log : List Entry) (at seed n c : ℕ) (bytes :
 
   -- a node whose channels and whose router these are
   done : (ch : Channels) (router : Router) → r ≡ row configs log at seed a → y ≡ record x { channels = ch; router = router } → ChannelsStand configs (log ++ e ∷ []) n ch → RouterStands configs (log ++ e ∷ []) n router → Done
-  done ch router = built configs log ev n x y l links r ch router s t kept (λ p out. not_among named p n n out) refl refl
+  done ch router = built configs log ev n x y l links r ch router s t kept (λ p out. not_among named p n n out) refl refl refl
 
   -- the channels, whose quota was asked
   channels_now : ChannelsStand configs (log ++ e ∷ []) n (keys_metered c keys at x.channels)
@@ -98,7 +98,7 @@ module _ (configs : List Config) (log : List Entry) (at seed n c : ℕ) (bytes :
   unfolding effect
   router_now inner new is none over number peers =
       RouterStands-moved configs log e n x.router new routes (hears_aside log e n a refl refl)
-      (subst (λ (z : Row). StandsFor configs (log ++ entry_of ev z ∷ []) new) (sym is) (over_taking configs log ev new names inner over (record { no_step = unrouted_apart log (entry_of ev (taking names inner)) new.number refl; no_channel = refl; no_start = refl; no_end = λ conn. ends_untold log (entry_of ev (taking names inner)) new.number conn a refl refl }) none))
+      (subst (λ (z : Row). StandsFor configs (log ++ entry_of ev z ∷ []) new) (sym is) (over_taking configs log ev new names inner over (record { no_step = unrouted_apart log (entry_of ev (taking names inner)) new.number refl; no_channel = refl; no_turn = refl; no_end = λ conn. ends_untold log (entry_of ev (taking names inner)) new.number conn a refl refl }) none))
       number peers
 
   -- or nothing
@@ -108,7 +108,7 @@ module _ (configs : List Config) (log : List Entry) (at seed n c : ℕ) (bytes :
   router_idle rep new is over number peers =
       RouterStands-moved configs log e n x.router new routes (hears_aside log e n a refl refl)
       (subst (λ (z : Row). StandsFor configs (log ++ entry_of ev z ∷ []) new) (sym is)
-      (over_gone configs log (entry_of ev (taking names (only rep))) new names over (record { no_step = unrouted_apart log (entry_of ev (taking names (only rep))) new.number refl; no_channel = refl; no_start = refl; no_end = λ conn. ends_untold log (entry_of ev (taking names (only rep))) new.number conn a refl refl }) (append-nil names) refl))
+      (over_gone configs log (entry_of ev (taking names (only rep))) new names over (record { no_step = unrouted_apart log (entry_of ev (taking names (only rep))) new.number refl; no_channel = refl; no_turn = refl; no_end = λ conn. ends_untold log (entry_of ev (taking names (only rep))) new.number conn a refl refl }) (append-nil names) refl))
       number peers
 
   module _ (mid : Node) (o : Offered) (row_now : Row) (h : IsOffered configs log n c at to x mid o) (is : r ≡ listed o.list row_now) where
@@ -159,10 +159,15 @@ module _ (configs : List Config) (log : List Entry) (at seed n c : ℕ) (bytes :
         (subst (λ (z : Row). StandsOver configs log y.router (after (length log) z left)) row_is (calls.stands configs log left h.over refl))
         (ap (λ (z : Router). z.number) calls.rest ∙ number_is) (ap (λ (z : Router). z.peers) calls.rest ∙ h.peers))
 
+    -- the node has not stopped, so its router's mailbox is not closed
+    handed : (ks : List Key) → row configs log at seed a ≡ taking names (fitting_row (nat_lt (limit_at configs n) (length bytes)) (length bytes) (limit_at configs n) (unless_stopped log n (reply.Sent []) (sent ks)))
+        → row configs log at seed a ≡ taking names (fitting_row (nat_lt (limit_at configs n) (length bytes)) (length bytes) (limit_at configs n) (sent ks))
+    handed ks due = due ∙ ap (λ b. taking names (fitting_row (nat_lt (limit_at configs n) (length bytes)) (length bytes) (limit_at configs n) (cond b (only (reply.Sent [])) (sent ks)))) s.lasts
+
     by_keys : (asks ks : List Key) → row configs log at seed a ≡ taking names (send_keys_row configs log bytes c n priority asks ks) → SendsOffered (is_refused asks ks) (length log) c priority bytes ks mid y row_now → Done
-    by_keys [] ks due d = to_by ks (nat_lt mid.config.max_message_size (length bytes)) refl due d
+    by_keys [] ks due d = to_by ks (nat_lt mid.config.max_message_size (length bytes)) refl (handed ks due) d
     by_keys (j ∷ js) [] due d = refused (reply.Sent []) due d.0 d.1
-    by_keys (j ∷ js) (k ∷ ks) due d = to_by (k ∷ ks) (nat_lt mid.config.max_message_size (length bytes)) refl due d
+    by_keys (j ∷ js) (k ∷ ks) due d = to_by (k ∷ ks) (nat_lt mid.config.max_message_size (length bytes)) refl (handed (k ∷ ks) due) d
 
   -- on a channel that is not registered no quota is asked
   unregistered : capacity_at x.channels c ≡ None → ChannelsStand configs (log ++ e ∷ []) n x.channels
@@ -175,7 +180,7 @@ module _ (configs : List Config) (log : List Entry) (at seed n c : ℕ) (bytes :
   gone has is told same =
       let still = effect-still configs log ev reply.Gone is in
       done x.channels x.router (told ∙ sym is) same (unregistered has)
-      (RouterStands-idle configs log e n x.router (record { no_step = unrouted_apart log e n refl; no_channel = refl; no_start = refl; no_end = λ conn. ends_untold log e n conn a refl refl }) (hears_aside log e n a refl refl) still.takes still.puts still.ends routes)
+      (RouterStands-idle configs log e n x.router (record { no_step = unrouted_apart log e n refl; no_channel = refl; no_turn = refl; no_end = λ conn. ends_untold log e n conn a refl refl }) (hears_aside log e n a refl refl) still.takes still.puts still.ends routes)
 
   -- the row, by whether the channel is registered
   due_on : (p : Option ℕ) → capacity_at x.channels c ≡ p → row configs log at seed a ≡ elim p [ None ↦ only reply.Gone | Some _ ↦ taking names (send_keys_row configs log bytes c n priority keys admitted) ]

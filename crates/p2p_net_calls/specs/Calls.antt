@@ -25,7 +25,7 @@ Starts k at old new r =
 -- by whether the channel has a reader
 abbrev pub ReadsOn : Bool → ℕ → Node → Node → Row → Type 0
 ReadsOn false c old new r = Stays old new r (only reply.Gone)
-ReadsOn true c old new r = (r ≡ oldest_read (waiting old.channels.waiting c)) × (new ≡ record old { channels = read_from c old.channels })
+ReadsOn true c old new r = (r ≡ oldest_read reply.Pending (waiting old.channels.waiting c)) × (new ≡ record old { channels = read_from c old.channels })
 
 abbrev pub Reads : ℕ → Node → Node → Row → Type 0
 Reads c old new r = ReadsOn (has_reader old.channels c) c old new r

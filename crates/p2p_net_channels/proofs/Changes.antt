@@ -1,5 +1,5 @@
 -- The channels of a node after one more entry.
-use Rattle.std.proofs.Common.{◌≡◌, ℕ, List, [], ◌∷◌, ◌++◌, ap, sym, ◌∙◌, arith, append-nil}
+use Rattle.std.proofs.Common.{◌≡◌, ℕ, List, [], ◌∷◌, ◌++◌, ap, sym, ◌∙◌, arith}
 use Rattle.std.specs.BTreeMap.{is_at}
 use Rattle.std.specs.Ordering.{nat_cmp}
 use Rattle.std.proofs.lemmas.Bool.Decides.{nat_tests}
@@ -9,7 +9,7 @@ use Rattle.p2p_log.specs.declared.item.Envelope.{Envelope}
 use Rattle.p2p_log.specs.declared.entry.Entry.{Entry}
 use Rattle.p2p_log.specs.QueueCode.{same_queue}
 use Rattle.p2p_log_rules.specs.Facts.{registers_at, channels, capacity_in, rates, rate_in, sum_capacities}
-pub use Rattle.p2p_log_rules.proofs.Channels.{channels-append}
+pub use Rattle.p2p_log_rules.proofs.Channels.{channels-append, channels-kept}
 use Rattle.p2p_net_queues.specs.Lines.{HoldsLines}
 use Rattle.p2p_net_queues.proofs.Holding.{holds_frame}
 use Rattle.p2p_net_queues.specs.Tables.{at}
@@ -19,9 +19,6 @@ use Rattle.p2p_net_channels.proofs.Checks.{checks_kept}
 use Rattle.p2p_net_channels.proofs.Quotas.{same_rates, quota_stays}
 use Rattle.p2p_net_channels.proofs.Readers.{closed_stay}
 use Rattle.p2p_net_channels.proofs.Sending.{senders_stay}
-
-pub channels-kept : (configs : List Config) (log : List Entry) (e : Entry) (n : ℕ) → registers_at configs n e.event.act ≡ [] → channels configs (log ++ e ∷ []) n ≡ channels configs log n
-channels-kept configs log e n none = channels-append configs log e n ∙ (ap (λ l. channels configs log n ++ l) none ∙ append-nil (channels configs log n))
 
 -- no channel more, and these messages wait
 pub channels_moved :

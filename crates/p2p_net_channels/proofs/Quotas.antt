@@ -1,5 +1,5 @@
 -- The rates of channels, and what is kept of their quotas, after one more entry.
-use Rattle.std.proofs.Common.{◌≡◌, ℕ, ◌≤◌, Bool, true, false, cond, List, [], ◌∷◌, ◌++◌, map, Option, Some, None, refl, ap, sym, subst, ◌∙◌, append-nil}
+use Rattle.std.proofs.Common.{◌≡◌, ℕ, ◌≤◌, Bool, true, false, cond, List, [], ◌∷◌, ◌++◌, map, Option, Some, None, refl, ap, sym, subst, ◌∙◌}
 use Rattle.std.specs.Prelude.{◌==◌, is_some, slice_get}
 use Rattle.std.specs.Ordering.{nat_cmp}
 use Rattle.p2p_runtime.specs.QuotaKeys.{KeptByKey}
@@ -11,7 +11,7 @@ use Rattle.p2p_log_rules.specs.Facts.{events_of, latest_moment, capacity_for, wi
 use Rattle.p2p_log_rules.specs.Listening.{quota_of}
 use Rattle.p2p_log_rules.specs.Metering.{messages, limit_at, admitted_by, admitted, quota_or_none, may_pass}
 use Rattle.p2p_log_rules.specs.Told.{told}
-use Rattle.p2p_log_rules.proofs.Channels.{rates-append}
+use Rattle.p2p_log_rules.proofs.Channels as facts
 use Rattle.p2p_net_queues.specs.Meters.{passes_on}
 use Rattle.p2p_net_queues.specs.Tables.{at}
 use Rattle.p2p_net_queues.proofs.Meters.{admitted-kept, meters_frame, passes_is}
@@ -27,7 +27,7 @@ no_rate configs n [] h = refl
 no_rate configs n (r ∷ rs) h = cc
 
 pub rates-kept : (configs : List Config) (log : List Entry) (e : Entry) (n : ℕ) → registers_at configs n e.event.act ≡ [] → rates (log ++ e ∷ []) n ≡ rates log n
-rates-kept configs log e n none = rates-append log e n ∙ (ap (λ l. rates log n ++ l) (no_rate configs n (rates_by n e.event.act) none) ∙ append-nil (rates log n))
+rates-kept configs log e n none = facts.rates-kept log e n (no_rate configs n (rates_by n e.event.act) none)
 
 -- each channel that has a rate has a capacity
 known_in : (configs : List Config) (n c : ℕ) (rs : List (ℕ × Rate)) → is_some (capacity_in (map (with_capacity configs n) rs) c) ≡ is_some (rate_in rs c)

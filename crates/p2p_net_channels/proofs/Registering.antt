@@ -11,7 +11,7 @@ use Rattle.p2p_log.specs.declared.event.Rate.{Rate}
 use Rattle.p2p_log.specs.declared.event.Act.TheVariants as act
 use Rattle.p2p_log.specs.declared.entry.Entry.{Entry}
 use Rattle.p2p_log.specs.Lines.{line}
-use Rattle.p2p_log_rules.specs.Facts.{registers_at, capacity_for, with_capacity, channels, capacity_in, rates_by, rates, rate_in, sum_capacities}
+use Rattle.p2p_log_rules.specs.Facts.{is_stopped, registers_at, capacity_for, with_capacity, channels, capacity_in, rates_by, rates, rate_in, sum_capacities}
 use Rattle.p2p_log_rules.specs.Admitting.{rate_at, sent_moments}
 use Rattle.p2p_log_rules.specs.Listening.{quota_of}
 use Rattle.p2p_log_rules.specs.Tracking.{key_cmp}
@@ -64,9 +64,9 @@ same_number : (n : ℕ) → (n == n) ≡ true
 same_number n = grind (arith, nat_tests)
 
 -- an act that registers a channel has its rate
-rates_registered : (log : List Entry) (e : Entry) (n c : ℕ) (rate : Rate) → e.event.act ≡ act.Register c n rate → rates (log ++ e ∷ []) n ≡ rates log n ++ (c, rate) ∷ []
-rates_registered log e n c rate is =
-    rates-append log e n ∙ ap (λ l. rates log n ++ l) (ap (rates_by n) is ∙ ap (λ b. cond b ((c, rate) ∷ []) []) (same_number n))
+rates_registered : (log : List Entry) (e : Entry) (n c : ℕ) (rate : Rate) → is_stopped log n ≡ false → e.event.act ≡ act.Register c n rate → rates (log ++ e ∷ []) n ≡ rates log n ++ (c, rate) ∷ []
+rates_registered log e n c rate runs is =
+    rates-append log e n runs ∙ ap (λ l. rates log n ++ l) (ap (rates_by n) is ∙ ap (λ b. cond b ((c, rate) ∷ []) []) (same_number n))
 
 -- what is kept of the quota of each channel, once a channel is registered that was not
 module _ (configs : List Config) (log : List Entry) (e : Entry) (n c : ℕ) (rate : Rate) (ch : Channels) where
@@ -104,16 +104,16 @@ module _ (configs : List Config) (log : List Entry) (e : Entry) (n c : ℕ) (rat
 
 -- an entry that registers a channel
 pub channels_registered :
-    (configs : List Config) (log : List Entry) (e : Entry) (n c k : ℕ) (rate : Rate) (ch : Channels) → ChannelsStand configs log n ch → e.event.act ≡ act.Register c n rate
+    (configs : List Config) (log : List Entry) (e : Entry) (n c k : ℕ) (rate : Rate) (ch : Channels) → ChannelsStand configs log n ch → is_stopped log n ≡ false → e.event.act ≡ act.Register c n rate
     → k ≡ capacity_for (slice_get configs n) rate → capacity_at ch c ≡ None → mailbox_size_at configs n + (ch.total + k) < 2 ^ 64
     → ((d : ℕ) → line (log ++ e ∷ []) (queue.Channel n d) ≡ line log (queue.Channel n d)) → IsQuota (quota_of rate)
     → AdmitsNone configs log e n → SendsNone log e n → ChannelsStand configs (log ++ e ∷ []) n (registered_with ch c k (quota_of rate))
-channels_registered configs log e n c k rate ch s is amount absent room lines is_quota admits sends =
+channels_registered configs log e n c k rate ch s runs is amount absent room lines is_quota admits sends =
     let here : registers_at configs n e.event.act ≡ (c, k) ∷ [] =
     ap (registers_at configs n) is
     ∙ (ap (λ b. map (with_capacity configs n) (cond b ((c, rate) ∷ []) [])) (same_number n) ∙ ap (λ j. (c, j) ∷ []) (sym amount))
     in
-    let more : channels configs (log ++ e ∷ []) n ≡ channels configs log n ++ (c, k) ∷ [] = channels-append configs log e n ∙ ap (λ l. channels configs log n ++ l) here in
+    let more : channels configs (log ++ e ∷ []) n ≡ channels configs log n ++ (c, k) ∷ [] = channels-append configs log e n runs ∙ ap (λ l. channels configs log n ++ l) here in
     record {
       capacities = λ d.
           lookup-insert_entry c d k ch.capacities
@@ -137,7 +137,7 @@ channels_registered configs log e n c k rate ch s is amount absent room lines is
     }
   where
     known : (d : ℕ) → rate_at (log ++ e ∷ []) n d ≡ elim (rate_at log n d) [ None ↦ cond (d == c) (Some rate) None | Some v ↦ Some v ]
-    known d = ap (λ l. rate_in l d) (rates_registered log e n c rate is) ∙ lookup-last (rates log n) c rate d
+    known d = ap (λ l. rate_in l d) (rates_registered log e n c rate runs is) ∙ lookup-last (rates log n) c rate d
 
     unknown : (o : Option Rate) → is_some o ≡ false → o ≡ None
     unknown None h = refl

@@ -302,7 +302,7 @@ impl Channels {
     ///
     /// `Err` only where there is no memory. The message may then be taken and told to nobody, and its node goes no further.
     pub fn read(&mut self, alloc: Global, channel: u64) -> Result<Row, AllocError>
-        ensures row { IfOk result (λ r. r ≡ oldest_read (waiting self.old.waiting channel)) }
+        ensures row { IfOk result (λ r. r ≡ oldest_read Reply.Pending (waiting self.old.waiting channel)) }
         ensures after { OnOk result (self.new ≡ read_from channel self.old) }
     {
         match self.take(channel) {

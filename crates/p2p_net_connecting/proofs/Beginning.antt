@@ -123,7 +123,7 @@ module _ (configs : List Config) (log : List Entry) (at seed conn n : ℕ) (half
 
   connections_now : ConnectionsStand configs (log ++ e ∷ []) n (begun_with conn x.connections)
   connections_now =
-      connections_begun configs log e n conn x.connections connects (λ c. subst (λ d. PingsWhenDue configs log d n c) (sym effect_is) (pings_by configs log n x.connections connects ev c)) (λ c. live_connection-kept log e n c (ends_none-reply log e n c refl) (connections_of-unmade log e n refl c)) not_running (λ c. step_begins log n conn c e refl refl)
+      connections_begun configs log e n conn x.connections connects (λ c. subst (λ d. PingsWhenDue configs log d n c) (sym effect_is) (pings_by configs log n x.connections connects ev c)) (λ c. live_connection-kept log e n c (ends_none-reply log e n c refl refl) (connections_of-unmade log e n refl c)) not_running (λ c. step_begins log n conn c e refl refl)
       (λ c. runs_is log e n c ∙ (ap (λ items. begins n c log e && list_any is_answer items) (taken-none log e refl) ∙ and_false (begins n c log e))) (receives_nothing configs log e n (taken-none log e refl) (λ c. beside (queue.Held n c) refl refl)) (λ c. beside (queue.Ready n c) refl refl)
 
   size_is : x.config.mailbox_size ≡ mailbox_size_at configs x.router.number
@@ -150,7 +150,7 @@ module _ (configs : List Config) (log : List Entry) (at seed conn n : ℕ) (half
             (subst (IsStranger x.router conn) key_is (IsStranger-unbegun log n conn parts.connection x.router routes.hears one alive idle))
             (step_beside configs log e x.router.number conn n refl refl) (subst (λ k. IsReadied e k 1 conn half.peer) (sym routes.number) readied);
         hears = HearsOfBegun-told log e n conn parts.connection x.router.peers y.router.peers routes.hears (λ k. subst (λ p. tree.get nat_cmp y.router.peers k ≡ cond (is_eq (nat_cmp conn k)) (Some p) (tree.get nat_cmp x.router.peers k)) (sym key_is) (calls.peers k)) alive
-            (λ c. step_begins log n conn c e refl refl) (λ c. ends_none-reply log e n c refl) (λ c. connections_of-unmade log e n refl c);
+            (λ c. step_begins log n conn c e refl refl) (λ c. ends_none-reply log e n c refl refl) (λ c. connections_of-unmade log e n refl c);
       }
 
   pub begin_performs : Performs configs log ev n y links r
@@ -158,7 +158,7 @@ module _ (configs : List Config) (log : List Entry) (at seed conn n : ℕ) (half
     row_is = d.0 ∙ sym row_is;
     node =
         each_part configs log ev n x y named_parts s (subst (λ z. z ≡ with_parts named_parts x z) (sym d.1.0) refl)
-        (λ p out. not_among-links named_parts p n out) refl (
+        (λ p out. not_among-links named_parts p n out) refl refl (
           subst (λ (z : Entry). ConnectionsStand configs (log ++ z ∷ []) n y.connections) effect_is (subst (ConnectionsStand configs (log ++ e ∷ []) n) (sym (ap (λ (z : Node). z.connections) d.1.0)) connections_now),
           (
             subst (λ (z : Entry). RouterStands configs (log ++ z ∷ []) n y.router) effect_is router_now,

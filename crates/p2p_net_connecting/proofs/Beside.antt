@@ -12,7 +12,7 @@ use Rattle.p2p_log.specs.QueueCode.{same_queue}
 use Rattle.p2p_log.specs.Lines.{line, live, stands_in}
 use Rattle.p2p_log_rules.specs.Connections.{half_at, is_end}
 use Rattle.p2p_log_rules.specs.Dropping.{half_end}
-use Rattle.p2p_log_rules.specs.Facts.{starts, registers_at}
+use Rattle.p2p_log_rules.specs.Facts.{stops, turns, registers_at}
 use Rattle.p2p_log_rules.proofs.Connections.{begins_act, ends_none-reply}
 use Rattle.p2p_log_rules.proofs.Families.{kinds_of, are_apart}
 use Rattle.p2p_log_rules.proofs.Spawning.{connections_of-unmade}
@@ -95,15 +95,15 @@ module _ (configs : List Config) (log : List Entry) (e : Entry) (n conn : ℕ) (
 
   received_beside : (m : ℕ) → IsBeside configs log e m
   received_beside m = record {
-    no_end = λ c. ends_none-reply log e m c lives;
+    no_end = λ c. ends_none-reply log e m c (ap (stops m) acts) lives;
     no_step = unrouted_apart log e m (ap (λ a. are_apart (kinds_of a) route_kinds) acts);
     no_channel = ap (registers_at configs m) acts;
-    no_start = ap (starts m) acts;
+    no_turn = ap (turns m) acts;
   }
 
   received_hears : HearsTheSame log e n
   received_hears =
-      hears_kept log e n (λ c. begins_act log e n c (act.RecvStep conn n) acts) (λ c. ends_none-reply log e n c lives)
+      hears_kept log e n (λ c. begins_act log e n c (act.RecvStep conn n) acts) (λ c. ends_none-reply log e n c (ap (stops n) acts) lives)
       (λ c. connections_of-unmade log e n (ap (steps_spawner n) acts) c)
 
   module _ (same : (q : Queue) → is_beside q ≡ true → line (log ++ e ∷ []) q ≡ line log q) where
@@ -116,7 +116,7 @@ module _ (configs : List Config) (log : List Entry) (e : Entry) (n conn : ℕ) (
 
     pub received_tracker : (t : Tracker) → TrackerStands configs log n t → TrackerStands configs (log ++ e ∷ []) n t
     received_tracker t s = tracker_frame configs log e n t s (record {
-      no_end = λ c. ends_none-reply log e n c lives;
+      no_end = λ c. ends_none-reply log e n c (ap (stops n) acts) lives;
       no_step = ap (steps_tracker n) acts;
       no_question = ap (asks_of n) acts;
       no_answer = λ d h. ap (λ a. takes_answer d a e.reply) acts;

@@ -103,7 +103,7 @@ module _ (configs : List Config) (log : List Entry) (at seed conn n : ℕ) (half
       record {
         row_is = told ∙ sym is;
         node =
-            each_part configs log ev n x y named_parts s (subst (λ z. z ≡ with_parts named_parts x z) (sym parts) refl) (λ p out. not_among-links named_parts p n out) refl (
+            each_part configs log ev n x y named_parts s (subst (λ z. z ≡ with_parts named_parts x z) (sym parts) refl) (λ p out. not_among-links named_parts p n out) refl refl (
               subst (λ (z : Entry). ChannelsStand configs (log ++ z ∷ []) n y.channels) same (subst (ChannelsStand configs (log ++ e ∷ []) n) (sym (ap (λ (z : Node). z.channels) parts)) chan_now),
               (
                 subst (λ (z : Entry). ConnectionsStand configs (log ++ z ∷ []) n y.connections) same (subst (ConnectionsStand configs (log ++ e ∷ []) n) (sym (ap (λ (z : Node). z.connections) parts)) connects_now),
@@ -132,7 +132,7 @@ module _ (configs : List Config) (log : List Entry) (at seed conn n : ℕ) (half
   begins_none due = begins_unsent log (made due) n (act.RecvStep conn n) refl (λ c. refl)
 
   spawns_none : (due : Row) → is_end due.reply ≡ false → SpawnsNone log (made due) n
-  spawns_none due lives c = live_connection-kept log (made due) n c (ends_none-reply log (made due) n c lives) (connections_of-unmade log (made due) n refl c)
+  spawns_none due lives c = live_connection-kept log (made due) n c (ends_none-reply log (made due) n c refl lives) (connections_of-unmade log (made due) n refl c)
 
   sends_none : (due : Row) → SendsNone log (made due) n
   sends_none due = sends_apart log (made due) n (act.RecvStep conn n) refl (refl, refl)

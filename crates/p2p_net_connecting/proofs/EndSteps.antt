@@ -33,7 +33,7 @@ use Rattle.p2p_net_node.proofs.EachPart.{with_parts, each_part, not_among-links,
 use Rattle.p2p_net_connecting.proofs.EndRows.{took_row}
 use Rattle.p2p_net_connecting.proofs.HaveLeft.{HaveLeft}
 use Rattle.p2p_net_connecting.proofs.Leaving.{Leaving}
-use Rattle.p2p_net_connecting.proofs.LeavingEntry.{half_act, no_spawner, entry}
+use Rattle.p2p_net_connecting.proofs.LeavingEntry.{half_act, no_spawner, no_stop, entry}
 use Rattle.p2p_net_connecting.proofs.LeavingParts.{connections_now, tracker_now, channels_now, links_now}
 use Rattle.p2p_net_connecting.proofs.LeavingRouter.{router_now}
 use Rattle.p2p_net_connecting.proofs.LeavingRow.{row_ends}
@@ -63,7 +63,7 @@ module _ {configs : List Config} {log : List Entry} {n conn : ℕ} {half : Half}
       let is : entry t at seed sends ≡ effect configs log ev = ap (entry_of ev) (sym row_is) in
       record {
         row_is = row_ends t ∙ sym row_is;
-        node = each_part configs log ev n x y ps t.stands same unnamed (no_spawner conn n sends) (subst (λ (z : Entry). AllOf (λ p. PartStands p configs (log ++ z ∷ []) n y) ps) is parts);
+        node = each_part configs log ev n x y ps t.stands same unnamed (no_spawner conn n sends) (no_stop conn n sends) (subst (λ (z : Entry). AllOf (λ p. PartStands p configs (log ++ z ∷ []) n y) ps) is parts);
         linked = subst (λ (z : Entry). LinksStand configs (log ++ z ∷ []) links) is (links_now t at seed sends);
       }
 

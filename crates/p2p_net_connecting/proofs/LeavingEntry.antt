@@ -15,7 +15,7 @@ use Rattle.p2p_log_rules.specs.declared.row.Row.{Row}
 use Rattle.p2p_log_rules.specs.Connections.{begins, ends_connection}
 use Rattle.p2p_log_rules.specs.Effect.{entry_of}
 use Rattle.p2p_log_rules.specs.Ending.{end_row}
-use Rattle.p2p_log_rules.specs.Facts.{registers_at, starts}
+use Rattle.p2p_log_rules.specs.Facts.{registers_at, stops, turns}
 use Rattle.p2p_log_rules.specs.Spawning.{connections_of}
 pub use Rattle.p2p_log_rules.proofs.Connections.{half_act}
 use Rattle.p2p_log_rules.proofs.Connections.{steps_sender, begins_is}
@@ -50,9 +50,13 @@ module _ (conn n : ℕ) where
   no_channel configs true k = refl
   no_channel configs false k = refl
 
-  pub no_start : (sends : Bool) (k : ℕ) → starts k (half_act sends conn n) ≡ false
-  no_start true k = refl
-  no_start false k = refl
+  pub no_turn : (sends : Bool) (k : ℕ) → turns k (half_act sends conn n) ≡ false
+  no_turn true k = refl
+  no_turn false k = refl
+
+  pub no_stop : (sends : Bool) → stops n (half_act sends conn n) ≡ false
+  no_stop true = refl
+  no_stop false = refl
 
   pub no_spawner : (sends : Bool) → steps_spawner n (half_act sends conn n) ≡ false
   no_spawner true = refl

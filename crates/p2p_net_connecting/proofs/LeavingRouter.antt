@@ -42,7 +42,7 @@ use Rattle.p2p_net_node.specs.Stands.{RouterStands, key_heard}
 use Rattle.p2p_net_node.specs.declared.node.Node.{Node}
 use Rattle.p2p_net_connecting.proofs.EndLines.{kept_is}
 use Rattle.p2p_net_connecting.proofs.Leaving.{Leaving, qs, flight, left, apart, routes, leads, without_number, without_peers, without_over, emptied_puts}
-use Rattle.p2p_net_connecting.proofs.LeavingEntry.{half_act, no_router, no_channel, no_start, entry, ends_only, begins_none, makes_none}
+use Rattle.p2p_net_connecting.proofs.LeavingEntry.{half_act, no_router, no_channel, no_turn, entry, ends_only, begins_none, makes_none}
 use Rattle.p2p_net_connecting.proofs.LeavingLines.{none_of, off_flight, left_none}
 use Rattle.p2p_net_node.proofs.Performing.{asked}
 use Rattle.p2p_net_node.proofs.Routers.{HearsOfBegun-ended}
@@ -169,7 +169,7 @@ module _ {configs : List Config} {log : List Entry} {n conn : ℕ} {half : Half}
     ending k same = subst (λ j. IsEnding configs log e j conn half.peer) (sym same) (record {
       no_step = unrouted_apart log e n (no_router conn n sends);
       no_channel = no_channel conn n configs sends n;
-      no_start = no_start conn n sends n;
+      no_turn = no_turn conn n sends n;
       ends = ends_only t at seed sends;
       rest = (queue.Tracker n, item.Release half.peer) ∷ [];
       puts = refl;

@@ -23,7 +23,7 @@ use Rattle.p2p_log_rules.specs.Dropping.{half_end}
 use Rattle.p2p_log_rules.specs.Connections.{half_at, live_half, is_done, begins, runs, is_begun, is_answer, has_run, is_running, is_end}
 use Rattle.p2p_log_rules.specs.Effect.{only, row, effect, takes_oldest, half_row, sender_row, send_step_row}
 use Rattle.p2p_log_rules.specs.Pings.{ping_frequency_at, is_past, ping_is_due}
-use Rattle.p2p_log_rules.specs.Facts.{is_up, starts, registers_at, taken, item_named}
+use Rattle.p2p_log_rules.specs.Facts.{is_up, stops, turns, registers_at, taken, item_named}
 use Rattle.p2p_log_rules.proofs.Families.{kinds_of, are_apart}
 use Rattle.p2p_log_rules.proofs.Recorded.{item_named-first}
 use Rattle.p2p_log_rules.proofs.Spawning.{connections_of-unmade}
@@ -101,10 +101,10 @@ line_begun log e n conn x rest q h =
 -- a step of a sending half is none of a router's
 pub step_beside : (configs : List Config) (log : List Entry) (e : Entry) (m conn n : ℕ) → e.event.act ≡ act.SendStep conn n → is_end e.reply ≡ false → IsBeside configs log e m
 step_beside configs log e m conn n acts lives = record {
-  no_end = λ c. ends_none-reply log e m c lives;
+  no_end = λ c. ends_none-reply log e m c (ap (stops m) acts) lives;
   no_step = unrouted_apart log e m (ap (λ b. are_apart (kinds_of b) route_kinds) acts);
   no_channel = ap (registers_at configs m) acts;
-  no_start = ap (starts m) acts;
+  no_turn = ap (turns m) acts;
 }
 
 -- a step of a connection, of whose connections this is the one that did it
@@ -120,7 +120,7 @@ other_begins log n conn c e acts other =
 -- where that has begun before, its router is to know of the same connections
 pub step_hears : (log : List Entry) (e : Entry) (n conn : ℕ) → e.event.act ≡ act.SendStep conn n → is_end e.reply ≡ false → is_begun log n conn ≡ true → HearsTheSame log e n
 step_hears log e n conn acts lives begun =
-    hears_again log e n conn begun (λ c other. other_begins log n conn c e acts other) (λ c. ends_none-reply log e n c lives) (λ c. connections_of-unmade log e n (ap (steps_spawner n) acts) c)
+    hears_again log e n conn begun (λ c other. other_begins log n conn c e acts other) (λ c. ends_none-reply log e n c (ap (stops n) acts) lives) (λ c. connections_of-unmade log e n (ap (steps_spawner n) acts) c)
 
 -- and where it does not end, no end of a link is dropped
 pub step_drops : (log : List Entry) (e : Entry) (n conn : ℕ) → e.event.act ≡ act.SendStep conn n → is_end e.reply ≡ false → DropsNone log e
@@ -158,7 +158,7 @@ took_stands configs log e n conn cs x rest s pinging begun idle acts ok h = by (
     waits c = waits_taken (queue.Ready n) (same_ready n) log conn x rest cs.answers s.waits h.first c ∙ sym (line_begun log e n conn x rest (queue.Ready n c) h)
 
     spawns : SpawnsNone log e n
-    spawns c = live_connection-kept log e n c (ends_none-reply log e n c (ap is_end ok)) (connections_of-unmade log e n (ap (steps_spawner n) acts) c)
+    spawns c = live_connection-kept log e n c (ends_none-reply log e n c (ap (stops n) acts) (ap is_end ok)) (connections_of-unmade log e n (ap (steps_spawner n) acts) c)
 
     receives : ReceivesNone configs log e n
     receives = step_receives configs log e n conn acts (λ c. line_begun log e n conn x rest (queue.Held n c) h)
@@ -182,7 +182,7 @@ named_parts = place.connections ∷ place.router ∷ place.tracker ∷ []
 pub step_untold : (log : List Entry) (e : Entry) (n conn : ℕ) → e.event.act ≡ act.SendStep conn n → is_end e.reply ≡ false → line (log ++ e ∷ []) (queue.Tracker n) ≡ line log (queue.Tracker n)
     → ((q : Queue) → is_told n q ≡ true → line (log ++ e ∷ []) q ≡ line log q) → LeavesTracker log e n
 step_untold log e n conn acts lives mailbox told = record {
-  no_end = λ c. ends_none-reply log e n c lives;
+  no_end = λ c. ends_none-reply log e n c (ap (stops n) acts) lives;
   no_step = ap (steps_tracker n) acts;
   no_question = ap (asks_of n) acts;
   no_answer = λ d h. ap (λ a. takes_answer d a e.reply) acts;
@@ -217,7 +217,7 @@ run_performs configs log at seed conn n half [] x y l links r s t up has begun i
       row_is = d.0 ∙ (ap takes_oldest is ∙ sym row_is);
       node =
           each_part configs log ev n x y named_parts s (subst (λ z. z ≡ with_parts named_parts x z) (sym parts) refl)
-          (λ p out. not_among-links named_parts p n out) refl (
+          (λ p out. not_among-links named_parts p n out) refl refl (
             let old : ConnectionsStand configs (log ++ e ∷ []) n x.connections = part_still place.connections configs log e n x (act.SendStep conn n) reply.Idle cs refl refl still in
                 subst (ConnectionsStand configs (log ++ e ∷ []) n) (sym (ap (λ (z : Node). z.connections) parts))
                 (record {
@@ -256,7 +256,7 @@ run_performs configs log at seed conn n half (w ∷ ws) x y l links r s t up has
       row_is = d.0 ∙ (ap takes_oldest is ∙ sym row_is);
       node =
           each_part configs log ev n x y named_parts s (subst (λ z. z ≡ with_parts named_parts x z) (sym parts) refl)
-          (λ p out. not_among-links named_parts p n out) refl (
+          (λ p out. not_among-links named_parts p n out) refl refl (
             subst (ConnectionsStand configs (log ++ e ∷ []) n) (sym (ap (λ (z : Node). z.connections) parts)) (took_stands configs log e n conn x.connections w ws cs (pings_by configs log n x.connections cs ev) begun idle refl (ap (λ (z : Row). z.reply) row_is) takes),
             (
               subst (RouterStands configs (log ++ e ∷ []) n) (sym (ap (λ (z : Node). z.router) parts))

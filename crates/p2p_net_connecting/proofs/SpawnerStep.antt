@@ -105,7 +105,7 @@ module _ (configs : List Config) (log : List Entry) (moment seed n : ℕ) (x y :
       record {
         row_is = done ∙ sym is;
         node =
-            each_part-made configs log ev n x y both s parts (λ p out. not_among both p n n out) (λ makes. unbegun) (
+            each_part-made configs log ev n x y both s parts (λ p out. not_among both p n n out) (λ makes. unbegun) refl (
               subst (λ (d : Entry). SpawnerStands configs (log ++ d ∷ []) n y.spawning) same spawner,
               (subst (λ (d : Entry). ConnectionsStand configs (log ++ d ∷ []) n y.connections) same connections, tt),
             );

@@ -73,7 +73,7 @@ route_on configs log at seed n true x y l links r s t started d kept =
       row_is = row_is;
       node =
           each_part configs log ev n x y (place.router ∷ place.connections ∷ []) s (subst (λ z. z ≡ with_parts (place.router ∷ place.connections ∷ []) x z) (sym parts) refl)
-          (λ p out. not_among (place.router ∷ place.connections ∷ []) p n n out) refl (
+          (λ p out. not_among (place.router ∷ place.connections ∷ []) p n n out) refl refl (
             RouterStands-moved configs log e n x.router y.router rout (hears_aside log e n (act.Router n) refl refl)
                 (subst (λ (z : Row). StandsFor configs (log ++ entry_of ev z ∷ []) y.router) row_is (calls.stands configs log ev rout.stands refl (ap act.Router (sym rout.number))))
                 (ap (λ (z : Router). z.number) calls.rest) (ap (λ (z : Router). z.peers) calls.rest),

@@ -53,6 +53,7 @@ use Rattle.p2p_net_node.proofs.EachPart.{with_parts, each_part, not_among-links}
 use Rattle.p2p_net_node.proofs.Routers.{RouterStands-moved}
 use Rattle.p2p_net_node.proofs.Performing.{asked, Performs}
 use Rattle.p2p_net_connecting.proofs.RouterAnswers.{step_beside, step_begins, other_begins, step_receives, step_hears, step_drops, named_parts, step_untold, still_runs}
+use Rattle.p2p_log_rules.specs.Facts.{stops}
 use Rattle.p2p_log_rules.proofs.Steps.{steps_spawner}
 
 -- an item, to a queue
@@ -243,7 +244,7 @@ module _ (configs : List Config) (log : List Entry) (at seed conn n : ℕ) (half
   connections_now = by due refl
     where
       spawns : SpawnsNone log e n
-      spawns c = live_connection-kept log e n c (ends_none-reply log e n c lives) (connections_of-unmade log e n (ap (steps_spawner n) acts) c)
+      spawns c = live_connection-kept log e n c (ends_none-reply log e n c (ap (stops n) acts) lives) (connections_of-unmade log e n (ap (steps_spawner n) acts) c)
 
       waits : HoldsLines (queue.Ready n) (log ++ e ∷ []) x.connections.answers
       waits c = connects.waits c ∙ sym (beside (queue.Ready n c) refl refl (ready_apart n half.link c half.writes))
@@ -285,7 +286,7 @@ module _ (configs : List Config) (log : List Entry) (at seed conn n : ℕ) (half
     row_is = d.row_is ∙ framed;
     node =
         each_part configs log ev n x y named_parts s (subst (λ z. z ≡ with_parts named_parts x z) (sym parts) refl)
-        (λ p out. not_among-links named_parts p n out) refl (
+        (λ p out. not_among-links named_parts p n out) refl refl (
           subst (ConnectionsStand configs (log ++ e ∷ []) n) (sym (ap (λ (z : Node). z.connections) parts)) connections_now,
           (
             subst (RouterStands configs (log ++ e ∷ []) n) (sym (ap (λ (z : Node). z.router) parts)) router_now,

@@ -209,7 +209,7 @@ module _ (configs : List Config) (log : List Entry) (moment seed name n m : ℕ)
   -- the dialing node's dialer
   dialer_now : DialerStands configs (log ++ e ∷ []) n c.after.dialing
   dialer_now =
-      dial_answered configs log moment seed name n up (act.Connect name from n m) due due_is c.first.dialing c.after.dialing first_dialer refl refl
+      dial_answered configs log moment seed name n up (act.Connect name from n m) due due_is c.first.dialing c.after.dialing first_dialer refl refl refl
       (λ j other. (refl, ap (λ b. b || false) (other_attempt n name j other))) (λ j other. (other_named n name j other, other_named n name j other))
       (refl, refl) c.answers.1.0 c.told answers (arrival_does (queue.Attempt n name) k m arrival comes c.told refl) (linked_is (dial_rules_at configs n) k m name n arrival up c.told)
 
@@ -314,7 +314,7 @@ module _ (configs : List Config) (log : List Entry) (moment seed name n m : ℕ)
   -- a node whose parts are those of another, but for its dialer and its listener
   node_now : (j : ℕ) (w z : Node) → NodeStands configs log j w → z ≡ record w { dialing = z.dialing; listening = z.listening } → DialerStands configs (log ++ e ∷ []) j z.dialing
       → ListenerStands configs (log ++ e ∷ []) j z.listening → NodeStands configs (log ++ e ∷ []) j z
-  node_now j w z stood same dials listens = each_part configs log ev j w z (dialer ∷ listener ∷ []) stood same (unnamed log name n m j from) refl (dials, (listens, tt))
+  node_now j w z stood same dials listens = each_part configs log ev j w z (dialer ∷ listener ∷ []) stood same (unnamed log name n m j from) refl refl (dials, (listens, tt))
 
   dialer_frame : (j : ℕ) (w : Node) → NodeStands configs log j w → (n == j) ≡ false → DialerStands configs (log ++ e ∷ []) j w.dialing
   dialer_frame j w stood other = part_frame dialer configs log ev j w (stood.each dialer) (ap (λ b. b || false) other) (makes_none log j ev.act refl)

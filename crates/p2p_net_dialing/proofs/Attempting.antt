@@ -35,7 +35,7 @@ use Rattle.p2p_log_rules.proofs.Told.{NoneTold}
 use Rattle.p2p_log_rules.specs.Effect.{only, row, effect, entry_of}
 use Rattle.p2p_log_rules.specs.Connections.{half_at}
 use Rattle.p2p_log_rules.specs.Dropping.{LinkEnd, other_side, dialing_end, arriving_end, half_end}
-use Rattle.p2p_log_rules.specs.Facts.{starts, taken}
+use Rattle.p2p_log_rules.specs.Facts.{turns, taken}
 use Rattle.p2p_log_rules.specs.Handshakes.{peer_at}
 use Rattle.p2p_log_rules.proofs.Touches.{reads, writes}
 use Rattle.p2p_log_laws.proofs.Reaching as reaching
@@ -48,6 +48,7 @@ use Rattle.p2p_net_gates.specs.DialerStands.{gates_at, told_item, attempt_of, At
 use Rattle.p2p_net_gates.specs.declared.attempt.RunningAttempt.{RunningAttempt}
 use Rattle.p2p_net_gates.specs.declared.dialing.Dialing.{Dialing}
 use Rattle.p2p_net_gates.proofs.Attempting.{attempt_changed}
+use Rattle.p2p_net_links.proofs.Drops.{is_stop}
 use Rattle.p2p_net_links.specs.Stands.{LinksStand}
 use Rattle.p2p_net_links.specs.declared.links.Links.{Links}
 use Rattle.p2p_net_node.specs.Staying.{TellsAttempt}
@@ -56,7 +57,7 @@ use Rattle.p2p_net_node.specs.Places.{Part, at, links, parts_of, same_place, nam
 use Rattle.p2p_net_node.specs.Stands.{NodeStands}
 use Rattle.p2p_net_node.specs.declared.node.Node.{Node}
 use Rattle.p2p_net_node.proofs.EachPart.{is_in, each_part, not_among}
-use Rattle.p2p_net_node.proofs.Frames.{links_kept}
+use Rattle.p2p_net_node.proofs.Frames.{stops_unnamed, links_kept}
 use Rattle.p2p_net_node.proofs.Performing.{asked, Performs, line-still}
 use Rattle.p2p_log_rules.proofs.Steps.{steps_spawner}
 
@@ -82,16 +83,17 @@ unflown (Some one) n k = by (other_side one.1)
     by side.Out = refl
     by side.In = refl
 
--- and ends with no connection
-ends_of : (configs : List Config) (log : List Entry) (n k : ℕ) (a : Act) → writes configs log a (queue.Attempt n k) ≡ false → reaching.ends_in configs log a (queue.Attempt n k) ≡ false
-ends_of configs log n k (act.SendStep conn m) h = unflown (half_end (half_at log m conn)) n k
-ends_of configs log n k (act.RecvStep conn m) h = unflown (half_end (half_at log m conn)) n k
-ends_of configs log n k (act.Attempt e m) h =
+-- and ends with no connection, but with its node
+ends_of : (configs : List Config) (log : List Entry) (n k : ℕ) (a : Act) → is_stop a ≡ false → writes configs log a (queue.Attempt n k) ≡ false → reaching.ends_in configs log a (queue.Attempt n k) ≡ false
+ends_of configs log n k (act.SendStep conn m) goes_on h = unflown (half_end (half_at log m conn)) n k
+ends_of configs log n k (act.RecvStep conn m) goes_on h = unflown (half_end (half_at log m conn)) n k
+ends_of configs log n k (act.Attempt e m) goes_on h =
     ap (λ b. same_queue (queue.Attempt m e) (queue.Attempt n k) || b) (unflown (dialing_end log m e) n k)
     ∙ (or_false (same_queue (queue.Attempt m e) (queue.Attempt n k)) ∙ h)
-ends_of configs log n k (act.Handshake e m) h = unflown (Some ((peer_at log e).link, side.In)) n k
-ends_of configs log n k (act.Listener m) h = unflown (arriving_end log m) n k
-ends_of configs log n k _ h = h
+ends_of configs log n k (act.Handshake e m) goes_on h = unflown (Some ((peer_at log e).link, side.In)) n k
+ends_of configs log n k (act.Listener m) goes_on h = unflown (arriving_end log m) n k
+ends_of configs log n k (act.Stop by_start m) goes_on h = cc
+ends_of configs log n k _ goes_on h = h
 
 -- an attempt that is told one thing more
 pub told_is : (g : Gates) (name k n : ℕ) (m : Metadata Key) (b : Attempt) (waiting : List Envelope) (i : Item)
@@ -132,7 +134,7 @@ other_named n name j other = ap (λ b. b && (j == name)) (eq-eqb n n refl) ∙ o
 -- ---- the dialer, where the row of the act does this to the attempt
 
 module _ (configs : List Config) (log : List Entry) (moment seed n name : ℕ) (a : Act) (due : Row) (due_is : row configs log moment seed a ≡ due) (d u : Dialing) (stood : DialerStands configs log n d)
-    (no_start : starts n a ≡ false) (no_dials : dials_by n a ≡ false)
+    (no_turn : turns n a ≡ false) (no_stop : is_stop a ≡ false) (no_dials : dials_by n a ≡ false)
     (others : (j : ℕ) → (j == name) ≡ false → (reads configs log a (queue.Attempt n j) ≡ false) × (writes configs log a (queue.Attempt n j) ≡ false))
     (quiet : (j : ℕ) → (j == name) ≡ false → NoneTold (of_attempt n j) (length log) moment a)
     (kept : u.actor ≡ d.actor) where
@@ -166,7 +168,7 @@ module _ (configs : List Config) (log : List Entry) (moment seed n name : ℕ) (
   others_stay j other =
       let away = others j other in
       subst (λ (z : Entry). line (log ++ z ∷ []) (queue.Attempt n j) ≡ line log (queue.Attempt n j)) (sym is_effect)
-      (line-untouched configs log ev (queue.Attempt n j) (reads_of configs log n j a away.0) (writes_of configs log n j a away.1) (ends_of configs log n j a away.1))
+      (line-untouched configs log ev (queue.Attempt n j) (reads_of configs log n j a away.0) (writes_of configs log n j a away.1) (ends_of configs log n j a no_stop away.1))
 
   changed : (now : Option RunningAttempt) (done : Row) → DoesTo q k due done → AreBut name now d.attempts u.attempts
       → AttemptStands g name now (next done.reply) (line (log ++ entry_of ev done ∷ []) q) → DialerStands configs (log ++ effect configs log ev ∷ []) n u
@@ -174,7 +176,7 @@ module _ (configs : List Config) (log : List Entry) (moment seed n name : ℕ) (
       subst (λ (z : Entry). DialerStands configs (log ++ z ∷ []) n u) is_effect
       (attempt_changed configs log e n name d u now (next done.reply) stood
       (record {
-        no_start = no_start;
+        no_turn = no_turn;
         dials = dials_of-kept configs log e n no_dials;
         actor = kept;
         others = but;
@@ -220,6 +222,6 @@ module _ (configs : List Config) (log : List Entry) (moment seed n : ℕ) (a : A
   pub tells_performs : row configs log moment seed a ≡ r → DialerStands configs (log ++ effect configs log (asked moment seed a) ∷ []) n y.dialing → Performs configs log (asked moment seed a) n y ls r
   tells_performs is stands = record {
     row_is = sym is;
-    node = each_part configs log (asked moment seed a) n x y (place.dialer ∷ []) s tells.1 unnamed (no_spawn log n a (unnamed place.connections refl)) (stands, tt);
+    node = each_part configs log (asked moment seed a) n x y (place.dialer ∷ []) s tells.1 unnamed (no_spawn log n a (unnamed place.connections refl)) (stops_unnamed log n place.connections a (unnamed place.connections refl)) (stands, tt);
     linked = subst (LinksStand configs (log ++ effect configs log (asked moment seed a) ∷ [])) (sym kept) (links_kept configs log (asked moment seed a) l t no_links);
   }

@@ -21,7 +21,7 @@ use Rattle.p2p_log_rules.proofs.AttemptTellings.{answered_told}
 use Rattle.p2p_log_rules.proofs.Dialing.{dials_by}
 use Rattle.p2p_log_rules.proofs.Told.{NoneTold}
 use Rattle.p2p_log_rules.specs.Effect.{only, row, effect}
-use Rattle.p2p_log_rules.specs.Facts.{starts}
+use Rattle.p2p_log_rules.specs.Facts.{turns}
 use Rattle.p2p_log_rules.proofs.Touches.{reads, writes}
 use Rattle.p2p_net_queues.specs.Tables as table
 use Rattle.p2p_net_queues.specs.Tables.{AreBut}
@@ -29,6 +29,7 @@ use Rattle.p2p_net_gates.specs.Attempts.{link_told, answered, with_told, Answers
 use Rattle.p2p_net_gates.specs.DialerStands.{gates_at, told_item, attempt_of, AttemptStands, DialerStands}
 use Rattle.p2p_net_gates.specs.declared.attempt.RunningAttempt.{RunningAttempt}
 use Rattle.p2p_net_gates.specs.declared.dialing.Dialing.{Dialing}
+use Rattle.p2p_net_links.proofs.Drops.{is_stop}
 use Rattle.p2p_net_links.specs.Stands.{LinksStand}
 use Rattle.p2p_net_links.specs.declared.links.Links.{Links}
 use Rattle.p2p_net_node.specs.Staying.{TellsAttempt}
@@ -58,7 +59,7 @@ answer_row_is configs log name n links d u told s h = by (table.at d.attempts na
     by (Some w) None stands h = absurd stands
 
 module _ (configs : List Config) (log : List Entry) (moment seed name n : ℕ) (links : Bool) (a : Act) (due : Row) (due_is : row configs log moment seed a ≡ due) (d u : Dialing) (stood : DialerStands configs log n d)
-    (no_start : starts n a ≡ false) (no_dials : dials_by n a ≡ false)
+    (no_turn : turns n a ≡ false) (no_stop : is_stop a ≡ false) (no_dials : dials_by n a ≡ false)
     (others : (j : ℕ) → (j == name) ≡ false → (reads configs log a (queue.Attempt n j) ≡ false) × (writes configs log a (queue.Attempt n j) ≡ false))
     (quiet : (j : ℕ) → (j == name) ≡ false → NoneTold (of_attempt n j) (length log) moment a)
     (silent : (act_tellings log moment seed a due reply.Gone ≡ []) × (act_tellings log moment seed a due reply.Pending ≡ []))
@@ -75,7 +76,7 @@ module _ (configs : List Config) (log : List Entry) (moment seed name n : ℕ) (
   unanswered : (now : Option RunningAttempt) (rep : Reply) (told : Row) → act_tellings log moment seed a due rep ≡ [] → told ≡ only rep → DoesTo q (length log) due told
       → AreBut name now d.attempts u.attempts → now ≡ table.at d.attempts name → Stands
   unanswered now rep told none is does but now_is =
-      untold_stands configs log moment seed n name a due due_is d u stood no_start no_dials others quiet kept now rep (subst (DoesTo q (length log) due) is does) but
+      untold_stands configs log moment seed n name a due due_is d u stood no_turn no_stop no_dials others quiet kept now rep (subst (DoesTo q (length log) due) is does) but
       (ap (λ us. attempt_told (dial_rules_at configs n) n name us (attempts name)) none) now_is
 
   -- what is answered makes the link, where it does
@@ -98,7 +99,7 @@ module _ (configs : List Config) (log : List Entry) (moment seed name n : ℕ) (
   by_address b m None done told reserved is there row_is does but answers = unanswered (Some (now_of b m)) reply.Pending told silent.1 row_is does but (sym there)
   by_address b m (Some to) true told reserved is there row_is does but answers = unanswered (Some (now_of b m)) reply.Gone told silent.0 row_is does but (sym there)
   by_address b m (Some to) false told reserved is there row_is does but answers =
-      told_stands configs log moment seed n name a due due_is d u stood no_start no_dials others quiet kept (Some (answered (Some to) false links (length log) (now_of b m))) (link_item links)
+      told_stands configs log moment seed n name a due due_is d u stood no_turn no_stop no_dials others quiet kept (Some (answered (Some to) false links (length log) (now_of b m))) (link_item links)
       (subst (DoesTo q (length log) due) row_is does) but
       (subst (λ (o : Option Attempt). AttemptStands (gates_at configs n) name (Some (answered (Some to) false links (length log) (now_of b m))) o
       (line log q ++ record { entry = length log; place = 0; queue = q; item = link_item links } ∷ []))
@@ -131,6 +132,6 @@ refuse_performs configs log moment seed name n x y l ls r s t h tells kept =
     let d : DialerStands configs log n x.dialing = s.each place.dialer in
     let is : row configs log moment seed a ≡ r = refuse_row_is configs log moment seed name n ∙ sym (answer_row_is configs log name n false x.dialing y.dialing r d h) in
     tells_performs configs log moment seed n a x y l ls r s t (unnamed_by log n) refl tells kept is
-    (dial_answered configs log moment seed name n false a r is x.dialing y.dialing d refl refl (λ j other. (refl, other_attempt n name j other))
+    (dial_answered configs log moment seed name n false a r is x.dialing y.dialing d refl refl refl (λ j other. (refl, other_attempt n name j other))
     (λ j other. other_named n name j other) (refl, refl) tells.0 r h
     (does_itself (queue.Attempt n name) (length log) r) (λ told b. answered_told (dial_rules_at configs n) n name (length log) b))

@@ -287,7 +287,7 @@ module _ (configs : List Config) (log : List Entry) (moment seed n : ℕ) (x y :
         record {
           row_is = tracks.0 ∙ (ap (λ h. dialed_row h n took (item_in o)) (tracked.told (queue.Dialer n) (eq-eqb n n refl)) ∙ sym row_is);
           node =
-              each_part configs log ev n x y (place.tracker ∷ place.dialer ∷ []) s rest (λ p out. not_among (place.tracker ∷ place.dialer ∷ []) p n n out) refl (
+              each_part configs log ev n x y (place.tracker ∷ place.dialer ∷ []) s rest (λ p out. not_among (place.tracker ∷ place.dialer ∷ []) p n n out) refl refl (
                 subst (λ (d : Entry). TrackerStands configs (log ++ d ∷ []) n y.tracker) same tracker_is,
                 (subst (λ (d : Entry). DialerStands configs (log ++ d ∷ []) n y.dialing) same dialer_is, tt),
               );

@@ -23,6 +23,7 @@ use Rattle.p2p_log.proofs.Taken.{other_left}
 use Rattle.p2p_log_rules.specs.declared.row.Row.{Row}
 use Rattle.p2p_log_rules.specs.Dropping.{LinkEnd, other_side, frames_towards, dropping, drops_of}
 use Rattle.p2p_log_rules.specs.Effect.{row, effect, entry_of}
+use Rattle.p2p_log_rules.specs.Facts.{stops}
 use Rattle.p2p_log_rules.proofs.Moves.{all_end-gone}
 use Rattle.p2p_log_laws.proofs.Emptying.{line_gone}
 use Rattle.p2p_net_queues.proofs.Going.{line-append}
@@ -187,10 +188,10 @@ pub record DidBeside (configs : List Config) (log : List Entry) (ev : Event) (n 
 -- so the act with the row in which the end is dropped is performed
 pub performs_beside :
     (configs : List Config) (log : List Entry) (ev : Event) (n : ℕ) (x y : Node) (l ls : Links) (ps : List Part) (lost : Option LinkEnd) (due base r : Row) (kept : Bool) (o : Option ℕ) (s : Side) → NodeStands configs log n x
-    → LinksStand configs log l → are_apart (kinds_of ev.act) opening_kinds ≡ true → steps_spawner n ev.act ≡ false → ((p : Part) → is_in p ps ≡ false → names log ev.act (at p n) ≡ false) → DidBeside configs log ev n x y ps lost due base → DropsUnless kept o s l ls base r
+    → LinksStand configs log l → are_apart (kinds_of ev.act) opening_kinds ≡ true → steps_spawner n ev.act ≡ false → stops n ev.act ≡ false → ((p : Part) → is_in p ps ≡ false → names log ev.act (at p n) ≡ false) → DidBeside configs log ev n x y ps lost due base → DropsUnless kept o s l ls base r
     → end_by kept o s ≡ lost → drops_of log (entry_of ev (dropped log lost base)) ≡ all_of lost → row configs log ev.at ev.seed ev.act ≡ dropping log lost base → Performs configs log ev n y ls r
 unfolding effect
-performs_beside configs log ev n x y l ls ps lost due base r kept o s stood t opens spawns unnamed did d same drops row_is =
+performs_beside configs log ev n x y l ls ps lost due base r kept o s stood t opens spawns goes_on unnamed did d same drops row_is =
     let is : row configs log ev.at ev.seed ev.act ≡ dropped log lost base = row_is ∙ dropping_is log lost base in
     let is_effect : entry_of ev (dropped log lost base) ≡ effect configs log ev = ap (entry_of ev) (sym is) in
     let after : (r ≡ dropped log lost base) × LinksStand configs (log ++ entry_of ev (dropped log lost base) ∷ []) ls =
@@ -200,6 +201,6 @@ performs_beside configs log ev n x y l ls ps lost due base r kept o s stood t op
     in
     record {
       row_is = after.0 ∙ sym is;
-      node = each_part configs log ev n x y ps stood did.rest unnamed spawns (subst (λ (z : Entry). AllOf (λ p. PartStands p configs (log ++ z ∷ []) n y) ps) is_effect did.parts);
+      node = each_part configs log ev n x y ps stood did.rest unnamed spawns goes_on (subst (λ (z : Entry). AllOf (λ p. PartStands p configs (log ++ z ∷ []) n y) ps) is_effect did.parts);
       linked = subst (λ (z : Entry). LinksStand configs (log ++ z ∷ []) ls) is_effect after.1;
     }

@@ -70,7 +70,7 @@ use Rattle.p2p_net_dialing.proofs.Between.{IsBetween, dialer_told}
 use Rattle.p2p_net_node.proofs.EachPart.{is_in, each_part}
 use Rattle.p2p_net_node.proofs.Frames.{makes_none, part_frame}
 use Rattle.p2p_net_node.proofs.Nodes.{slice_get-set, below}
-use Rattle.p2p_net_node.proofs.Performing.{asked, is_quiet, Simulates, part_still, links_still, effect-still}
+use Rattle.p2p_net_node.proofs.Performing.{asked, is_quiet, Simulates, still_node, links_still, effect-still}
 use Rattle.p2p_net_node.proofs.Readying.{key_is}
 use Rattle.p2p_net_node.proofs.Touching.{first_false, second_false}
 use Rattle.p2p_net_tracker.proofs.Leaves.{LeavesTracker}
@@ -126,7 +126,7 @@ still_simulates configs log moment seed link ok nodes new l links r s rep is qui
           (record {
             valid = s.valid;
             long = s.long;
-            each = λ m z g. let h = s.each m z g in record { own = h.own; each = λ p. part_still p configs log e m z a rep (h.each p) (refl) quiet still };
+            each = λ m z g. still_node configs log e m z a rep (s.each m z g) refl quiet still;
             linked = links_still configs log e a rep l s.linked (refl) quiet still;
           }));
     }
@@ -336,7 +336,7 @@ module _ (configs : List Config) (log : List Entry) (moment seed link : ℕ) (ok
       → NodeStands configs (log ++ e ∷ []) j (record w { tracker = u; listening = x })
   node_now j w u x t tracks listens =
       each_part configs log ev j t.before (record w { tracker = u; listening = x }) (dialer ∷ tracker ∷ listener ∷ []) t.stood
-      (ap (λ (z : Node). record z { tracker = u; listening = x }) t.same) (unnamed j) refl (t.dials, (tracks, (listens, tt)))
+      (ap (λ (z : Node). record z { tracker = u; listening = x }) t.same) (unnamed j) refl refl (t.dials, (tracks, (listens, tt)))
 
   untold_node : listening_puts m agree end ≡ [] → (w : Node) → IsBetween configs log e m w → NodeStands configs (log ++ e ∷ []) m w
   untold_node none w t =

@@ -36,7 +36,7 @@ handshake_performs configs log moment seed name n x y l ls r s t heard d =
     let waits = line log (queue.Handshake n name) in
     let h : Shaken configs log (asked moment seed (act.Handshake name n)) n name x y d.row = shaken configs log moment seed name n x y d.row s d.steps heard in
     performs_beside configs log (asked moment seed (act.Handshake name n)) n x y l ls named (lost_by log n name d.row) (log_rule.handshake_row configs log name n moment) d.row r
-    (is_some (table.at y.listening.handshakes name) || list_any is_spawn d.row.puts) (link_over (table.at x.listening.handshakes name)) side.In s t refl refl
+    (is_some (table.at y.listening.handshakes name) || list_any is_spawn d.row.puts) (link_over (table.at x.listening.handshakes name)) side.In s t refl refl refl
     (λ p out. not_among-links named p n out) h.did d.drops h.keeps
     (drops_of-handshake log (entry_of (asked moment seed (act.Handshake name n)) (dropped log (lost_by log n name d.row) d.row)) name n refl ∙ ap (λ b. all_of (cond b (Some (link, side.In)) None)) h.took)
     (step_row configs log moment seed name n ∙ ap (handshake_drops log link waits) (sym h.did.row_is))

@@ -34,7 +34,7 @@ listens_performs : (configs : List Config) (log : List Entry) (moment seed n : �
 listens_performs configs log moment seed n x y l ls row after over s t late up d drops =
     let ev : Event = asked moment seed (act.Listener n) in
     let h : Heard configs log ev n x y row over = heard configs log moment seed n x y row over s late up d.rest d.took d.refuses d.steps d.tracks in
-    performs_beside configs log ev n x y l ls named (lost_by log n row) (listener_row configs log n moment) row after false over side.In s t refl refl
+    performs_beside configs log ev n x y l ls named (lost_by log n row) (listener_row configs log n moment) row after false over side.In s t refl refl refl
     (λ p out. not_among-links named p n out) h.did drops h.drops
     (drops_of-listener log (entry_of ev (dropped log (lost_by log n row) row)) n refl ∙ ap all_of h.took)
     (step_row configs log moment seed n ∙ ap (listener_drops log n) (sym h.did.row_is))

@@ -52,7 +52,7 @@ module _ (configs : List Config) (log : List Entry) (moment seed : ℕ) (address
   gone : (now : Option RunningAttempt) → row configs log moment seed a ≡ only reply.Gone → r ≡ only reply.Gone → AreBut name now x.dialing.attempts y.dialing.attempts → now ≡ table.at x.dialing.attempts name → Done
   gone now is done but now_is =
       tells_performs configs log moment seed n a x y l ls r s t (unnamed_by log n) refl tells kept (is ∙ sym done)
-      (untold_stands configs log moment seed n name a (only reply.Gone) is x.dialing y.dialing (s.each place.dialer) refl refl (λ j other. (refl, other_attempt n name j other)) (λ j other. other_named n name j other) tells.0
+      (untold_stands configs log moment seed n name a (only reply.Gone) is x.dialing y.dialing (s.each place.dialer) refl refl refl (λ j other. (refl, other_attempt n name j other)) (λ j other. other_named n name j other) tells.0
       now reply.Gone (does_itself (queue.Attempt n name) (length log) (only reply.Gone)) but refl now_is)
 
   by_ingress : (b : Attempt) (m : Metadata Key) (at : Ingress) (done : Bool) → m ≡ metadata.Dialer b.key → attempts name ≡ Some b → table.at x.dialing.attempts name ≡ Some (attempt_of (gates_at configs n) name m b (line log (queue.Attempt n name)))
@@ -60,7 +60,7 @@ module _ (configs : List Config) (log : List Entry) (moment seed : ℕ) (address
       → AreBut name (Some (resolved at done (length log) addresses (attempt_of (gates_at configs n) name m b (line log (queue.Attempt n name))))) x.dialing.attempts y.dialing.attempts → Done
   by_ingress b m (ingress.Dns host port) false reserved is there at_is done_is row_is is_row but =
       tells_performs configs log moment seed n a x y l ls r s t (unnamed_by log n) refl tells kept (row_is ∙ sym is_row)
-      (told_stands configs log moment seed n name a (attempt_told_row name n (item.Resolved addresses)) row_is x.dialing y.dialing (s.each place.dialer) refl refl (λ j other. (refl, other_attempt n name j other))
+      (told_stands configs log moment seed n name a (attempt_told_row name n (item.Resolved addresses)) row_is x.dialing y.dialing (s.each place.dialer) refl refl refl (λ j other. (refl, other_attempt n name j other))
       (λ j other. other_named n name j other) tells.0 (Some (resolved (ingress.Dns host port) false (length log) addresses (attempt_of (gates_at configs n) name m b (line log (queue.Attempt n name))))) (item.Resolved addresses)
       (does_itself (queue.Attempt n name) (length log) (attempt_told_row name n (item.Resolved addresses))) but
       (subst (λ (o : Option Attempt). AttemptStands (gates_at configs n) name

@@ -232,7 +232,7 @@ module _ (configs : List Config) (log : List Entry) (moment seed name n : ℕ) (
     dialer_is =
         attempt_changed configs log (e due) n name x.dialing mid.dialing now next stood
         (record {
-          no_start = refl;
+          no_turn = refl;
           dials = dials_of-kept configs log (e due) n refl;
           actor = steps.actor;
           others = but;
@@ -450,7 +450,7 @@ attempt_performs configs log moment seed name n x y l ls r s t dials d =
     let did : DidBeside configs log (asked moment seed (act.Attempt name n)) n x y named lost (attempt_row configs log name n moment seed) d.row =
     by_attempt configs log moment seed name n x y d.row s d.steps dials lost o b refl refl (stood.attempts name) d.steps.tries
     in
-    performs_beside configs log (asked moment seed (act.Attempt name n)) n x y l ls named lost (attempt_row configs log name n moment seed) d.row r (not (gave_up d.row.puts)) (link_at o) side.Out s t refl refl
+    performs_beside configs log (asked moment seed (act.Attempt name n)) n x y l ls named lost (attempt_row configs log name n moment seed) d.row r (not (gave_up d.row.puts)) (link_at o) side.Out s t refl refl refl
     (λ p out. not_among-links named p n out) did d.drops
     (dropped_end (gave_up d.row.puts) (link_at o) (dialing_end log n name) (attempt_end configs log n x.dialing stood name))
     (drops_of-attempt log (entry_of (asked moment seed (act.Attempt name n)) (dropped log lost d.row)) name n refl)

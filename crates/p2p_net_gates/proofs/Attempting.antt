@@ -19,7 +19,7 @@ use Rattle.p2p_log.specs.Lines.{name_of, line}
 use Rattle.p2p_log_rules.specs.declared.row.Row.{Row}
 use Rattle.p2p_log_rules.specs.Attempting.{Attempt, attempts_of}
 use Rattle.p2p_log_rules.specs.Dialing.{dials_of}
-use Rattle.p2p_log_rules.specs.Facts.{starts}
+use Rattle.p2p_log_rules.specs.Facts.{turns}
 use Rattle.p2p_log_rules.specs.Links.{dialing_puts}
 use Rattle.p2p_net_queues.specs.Tables as table
 use Rattle.p2p_net_queues.specs.Tables.{AreBut}
@@ -33,7 +33,7 @@ use Rattle.p2p_net_gates.proofs.DialerChanges.{actor_kept}
 
 -- the entry changes the attempt of this name alone, which is this then, and stands for that
 pub record ChangesAttempt (configs : List Config) (log : List Entry) (e : Entry) (n name : ℕ) (d u : Dialing) (now : Option RunningAttempt) (next : Option Attempt) : Type 0 where
-  pub no_start : starts n e.event.act ≡ false
+  pub no_turn : turns n e.event.act ≡ false
   pub dials : dials_of configs (log ++ e ∷ []) n ≡ dials_of configs log n
   pub actor : u.actor ≡ d.actor
   pub others : AreBut name now d.attempts u.attempts
@@ -45,7 +45,7 @@ pub record ChangesAttempt (configs : List Config) (log : List Entry) (e : Entry)
 pub attempt_changed : (configs : List Config) (log : List Entry) (e : Entry) (n name : ℕ) (d u : Dialing) (now : Option RunningAttempt) (next : Option Attempt) → DialerStands configs log n d
     → ChangesAttempt configs log e n name d u now next → DialerStands configs (log ++ e ∷ []) n u
 attempt_changed configs log e n name d u now next s q = record {
-  actor = q.actor ∙ actor_kept configs log e n d s q.no_start q.dials;
+  actor = q.actor ∙ actor_kept configs log e n d s q.no_turn q.dials;
   attempts = λ k.
       subst (λ r. AttemptStands g k r (attempts_of configs (log ++ e ∷ []) n k) (after k)) (sym (q.others k))
       (by k (k == name) refl);
@@ -113,12 +113,12 @@ module _ (configs : List Config) (log : List Entry) (n name : ℕ) (ok : Bool) (
       by (Some w) None stands h = absurd stands
 
   -- the dialer after an entry by which nothing else waits for its attempts, and that changes none of them
-  pub dialer_finished : (e : Entry) → starts n e.event.act ≡ false → dials_of configs (log ++ e ∷ []) n ≡ dials_of configs log n
+  pub dialer_finished : (e : Entry) → turns n e.event.act ≡ false → dials_of configs (log ++ e ∷ []) n ≡ dials_of configs log n
       → ((k : ℕ) → attempts_of configs (log ++ e ∷ []) n k ≡ attempts k) → u.actor ≡ d.actor
       → ((k : ℕ) → (k == name) ≡ false → line (log ++ e ∷ []) (queue.Attempt n k) ≡ line log (queue.Attempt n k))
       → line (log ++ e ∷ []) q ≡ line log q ++ finished_line n name (length log) (length row.puts) ok (attempts name)
       → DialerStands configs (log ++ e ∷ []) n u
-  dialer_finished e no_start dials tries actor others here = by (table.at d.attempts name) (attempts name) refl refl (s.attempts name) finishes here
+  dialer_finished e no_turn dials tries actor others here = by (table.at d.attempts name) (attempts name) refl refl (s.attempts name) finishes here
     where
       g : Gates
       g = gates_at configs n
@@ -126,7 +126,7 @@ module _ (configs : List Config) (log : List Entry) (n name : ℕ) (ok : Bool) (
       changed : (now : Option RunningAttempt) (b : Option Attempt) → attempts name ≡ b → AreBut name now d.attempts u.attempts → AttemptStands g name now b (line (log ++ e ∷ []) q)
           → DialerStands configs (log ++ e ∷ []) n u
       changed now b is but stands = attempt_changed configs log e n name d u now b s (record {
-        no_start = no_start;
+        no_turn = no_turn;
         dials = dials;
         actor = actor;
         others = but;

@@ -1,11 +1,9 @@
 -- The dialer of a node after one more entry.
-use Rattle.std.proofs.Common.{◌≡◌, ℕ, ◌+◌, Bool, true, false, cond, List, [], ◌∷◌, ◌++◌, length, refl, ap, sym, subst, ◌∙◌, arith, eq-eqb, eqb-true, Option, Some, None}
-use Rattle.std.specs.Prelude.{slice_get, ◌==◌, ◌||◌}
-use Rattle.std.specs.Option.{option_map}
+use Rattle.std.proofs.Common.{◌≡◌, ℕ, ◌+◌, Bool, true, false, cond, List, [], ◌∷◌, ◌++◌, length, refl, ap, sym, subst, ◌∙◌, arith, eqb-true, Option, Some, None}
+use Rattle.std.specs.Prelude.{slice_get, ◌==◌}
 use Rattle.std.specs.BTreeMap.{is_at, insert_entry}
 use Rattle.std.specs.Ordering.{nat_cmp}
 use Rattle.std.proofs.lemmas.Bool.Decides.{nat_tests}
-use Rattle.p2p_log_rules.proofs.Bools.{or_true}
 use Rattle.p2p_base.specs.declared.key.Key.{Key}
 use Rattle.p2p_tracker_directory.specs.declared.metadata.Metadata.{Metadata}
 use Rattle.p2p_tracker_directory.specs.declared.metadata.Metadata.TheVariants as metadata
@@ -16,7 +14,6 @@ use Rattle.p2p_address.specs.declared.peer.Ingress.TheVariants as ingress
 use Rattle.p2p_log.specs.declared.config.Config.{Config}
 use Rattle.p2p_log.specs.declared.queue.Queue.{Queue}
 use Rattle.p2p_log.specs.declared.queue.Queue.TheVariants as queue
-use Rattle.p2p_log.specs.declared.item.Item.{Item}
 use Rattle.p2p_log.specs.declared.item.Envelope.{Envelope}
 use Rattle.p2p_log.specs.declared.entry.Entry.{Entry}
 use Rattle.p2p_log.specs.declared.event.Act.{Act}
@@ -27,10 +24,9 @@ use Rattle.p2p_log_rules.proofs.AttemptTellings.{tries, attempts_of-kept, attemp
 use Rattle.p2p_log_rules.proofs.Dialing.{dials_by, dials_of-kept, dials_of-starts}
 use Rattle.p2p_log_rules.specs.Tellings.{last_told}
 use Rattle.p2p_log_rules.specs.Told.{told}
-use Rattle.p2p_log_rules.specs.Facts.{starts, is_up, state_from}
-use Rattle.p2p_log_rules.specs.Dialing.{Pace, pace_at, Dials, new_dials, dials_of}
-use Rattle.p2p_log_rules.proofs.Channels.{is_up-append, is_up-none}
-use Rattle.p2p_log_rules.proofs.Facts.{state_from-append}
+use Rattle.p2p_log_rules.specs.Facts.{turns, is_up, is_stopped, state_from}
+use Rattle.p2p_log_rules.specs.Dialing.{Dials, new_dials, dials_of}
+use Rattle.p2p_log_rules.proofs.Channels.{is_up-kept, is_up-starts, is_up-none}
 use Rattle.p2p_net_queues.specs.Tables as table
 use Rattle.p2p_net_queues.proofs.Tables.{lookup-insert_entry}
 use Rattle.p2p_net_gates.specs.Attempts.{running}
@@ -42,22 +38,19 @@ use Rattle.p2p_net_gates.specs.declared.dialing.Dialing.{Dialing}
 -- ---- an entry that leaves it alone
 
 -- which the act is not of
-none_dials : (n : ℕ) (a : Act) → starts n a ≡ false → is_of_dialer n a ≡ false → dials_by n a ≡ false
+none_dials : (n : ℕ) (a : Act) → turns n a ≡ false → is_of_dialer n a ≡ false → dials_by n a ≡ false
 none_dials n (act.Start m) h k = h
 none_dials n (act.Dialer m) h k = k
 none_dials n _ h k = refl
 
-none_tries : (n : ℕ) (a : Act) → is_of_dialer n a ≡ false → tries n a ≡ false
-none_tries n (act.Dialer m) h = h
-none_tries n (act.Attempt e m) h = h
-none_tries n (act.Resolve addresses e m) h = h
-none_tries n (act.Connect e from m to) h = h
-none_tries n (act.Refuse e m) h = h
-none_tries n _ h = refl
-
-or_false : (b c : Bool) → c ≡ false → (b || c) ≡ b
-or_false true c h = refl
-or_false false c h = h
+none_tries : (n : ℕ) (a : Act) → turns n a ≡ false → is_of_dialer n a ≡ false → tries n a ≡ false
+none_tries n (act.Dialer m) k h = h
+none_tries n (act.Attempt e m) k h = h
+none_tries n (act.Resolve addresses e m) k h = h
+none_tries n (act.Connect e from m to) k h = h
+none_tries n (act.Refuse e m) k h = h
+none_tries n (act.Stop by_start m) k h = k
+none_tries n _ k h = refl
 
 -- an attempt of which nothing changed
 still_tried : (configs : List Config) (log : List Entry) (e : Entry) (n k : ℕ) (d : Dialing) → DialerStands configs log n d
@@ -73,26 +66,26 @@ pub actor_now : (configs : List Config) (log : List Entry) (n : ℕ) (up : Bool)
 actor_now configs log n up d is same = ap (λ b. cond b (Some (actor_of (gates_at configs n) d)) None) (sym is) ∙ ap (λ k. cond (is_up log n) (Some (actor_of (gates_at configs n) k)) None) (sym same)
 
 -- and where the dialer itself is left alone
-pub actor_kept : (configs : List Config) (log : List Entry) (e : Entry) (n : ℕ) (d : Dialing) → DialerStands configs log n d → starts n e.event.act ≡ false
+pub actor_kept : (configs : List Config) (log : List Entry) (e : Entry) (n : ℕ) (d : Dialing) → DialerStands configs log n d → turns n e.event.act ≡ false
     → dials_of configs (log ++ e ∷ []) n ≡ dials_of configs log n
     → d.actor ≡ cond (is_up (log ++ e ∷ []) n) (Some (actor_of (gates_at configs n) (dials_of configs (log ++ e ∷ []) n))) None
-actor_kept configs log e n d s no_start same =
+actor_kept configs log e n d s no_turn same =
     s.actor
-    ∙ actor_now configs (log ++ e ∷ []) n (is_up log n) (dials_of configs log n) (is_up-append log e n ∙ or_false (is_up log n) (starts n e.event.act) no_start) same
+    ∙ actor_now configs (log ++ e ∷ []) n (is_up log n) (dials_of configs log n) (is_up-kept log e n no_turn) same
 
 pub dialer_frame : (configs : List Config) (log : List Entry) (e : Entry) (n : ℕ) (d : Dialing) → DialerStands configs log n d → LeavesDialer configs log e n → DialerStands configs (log ++ e ∷ []) n d
 dialer_frame configs log e n d s q = record {
-  actor = actor_kept configs log e n d s q.no_start q.dials;
+  actor = actor_kept configs log e n d s q.no_turn q.dials;
   attempts = λ k. still_tried configs log e n k d s (q.tries k) (q.lines k);
 }
 
 -- an entry of another act, or of another node
-pub dialer_unmoved : (configs : List Config) (log : List Entry) (e : Entry) (n : ℕ) → starts n e.event.act ≡ false → is_of_dialer n e.event.act ≡ false
+pub dialer_unmoved : (configs : List Config) (log : List Entry) (e : Entry) (n : ℕ) → turns n e.event.act ≡ false → is_of_dialer n e.event.act ≡ false
     → ((k : ℕ) → line (log ++ e ∷ []) (queue.Attempt n k) ≡ line log (queue.Attempt n k)) → LeavesDialer configs log e n
-dialer_unmoved configs log e n no_start no_dialer waits = record {
-  no_start = no_start;
-  dials = dials_of-kept configs log e n (none_dials n e.event.act no_start no_dialer);
-  tries = λ k. attempts_of-kept configs log e n k (none_tries n e.event.act no_dialer);
+dialer_unmoved configs log e n no_turn no_dialer waits = record {
+  no_turn = no_turn;
+  dials = dials_of-kept configs log e n (none_dials n e.event.act no_turn no_dialer);
+  tries = λ k. attempts_of-kept configs log e n k (none_tries n e.event.act no_turn no_dialer);
   lines = waits;
 }
 
@@ -115,15 +108,14 @@ dialer_new configs n = record {
 gates_is : (configs : List Config) (n : ℕ) (c : Config) → slice_get configs n ≡ Some c → gates_of c ≡ gates_at configs n
 gates_is configs n c is = sym (ap (λ (o : Option Config). elim o [ None ↦ no_gates | Some d ↦ gates_of d ]) is)
 
-pub dialer_starts : (configs : List Config) (log : List Entry) (e : Entry) (n : ℕ) (c : Config) (d : Dialing) → DialerStands configs log n d → slice_get configs n ≡ Some c → e.event.act ≡ act.Start n
+pub dialer_starts : (configs : List Config) (log : List Entry) (e : Entry) (n : ℕ) (c : Config) (d : Dialing) → DialerStands configs log n d → slice_get configs n ≡ Some c → e.event.act ≡ act.Start n → is_stopped log n ≡ false
     → ((k : ℕ) → line (log ++ e ∷ []) (queue.Attempt n k) ≡ line log (queue.Attempt n k)) → DialerStands configs (log ++ e ∷ []) n (started c e.event.at d)
-dialer_starts configs log e n c d s is acts waits =
-    let here : starts n e.event.act ≡ true = ap (starts n) acts ∙ eq-eqb n n refl in
-    let now : dials_of configs (log ++ e ∷ []) n ≡ new_dials e.event.at = dials_of-starts configs log e n acts in
+dialer_starts configs log e n c d s is acts runs waits =
+    let now : dials_of configs (log ++ e ∷ []) n ≡ new_dials e.event.at = dials_of-starts configs log e n acts runs in
     record {
       actor =
           ap (λ g. Some (actor_of g (new_dials e.event.at))) (gates_is configs n c is)
-          ∙ actor_now configs (log ++ e ∷ []) n true (new_dials e.event.at) (is_up-append log e n ∙ (ap (λ b. is_up log n || b) here ∙ or_true (is_up log n))) now;
+          ∙ actor_now configs (log ++ e ∷ []) n true (new_dials e.event.at) (is_up-starts log e n acts runs) now;
       attempts = λ k. still_tried configs log e n k d s (attempts_of-kept configs log e n k (ap (tries n) acts)) (waits k);
     }
 
@@ -210,10 +202,9 @@ pub dialer_stepped : (configs : List Config) (log : List Entry) (e : Entry) (n :
     → ((k : ℕ) → line (log ++ e ∷ []) (queue.Attempt n k) ≡ line log (queue.Attempt n k)) → DialerStands configs (log ++ e ∷ []) n u
 dialer_stepped configs log e n d u begun next s acts up now actor new attempts waits =
     let what : Option Attempt = attempts_of configs (log ++ e ∷ []) n (length log) in
-    let no_start : starts n e.event.act ≡ false = ap (starts n) acts in
     let tried : (k : ℕ) → attempts_of configs (log ++ e ∷ []) n k ≡ cond (k == length log) what (attempts_of configs log n k) = λ k. by k (k == length log) refl in
     record {
-      actor = actor ∙ actor_now configs (log ++ e ∷ []) n true next (is_up-append log e n ∙ (or_false (is_up log n) (starts n e.event.act) no_start ∙ up)) now;
+      actor = actor ∙ actor_now configs (log ++ e ∷ []) n true next (is_up-kept log e n (ap (turns n) acts) ∙ up) now;
       attempts = λ k.
           subst (λ l. AttemptStands (gates_at configs n) k (table.at l k) (attempts_of configs (log ++ e ∷ []) n k) (line (log ++ e ∷ []) (queue.Attempt n k))) (sym attempts)
           (subst (AttemptStands (gates_at configs n) k (table.at (attempts_with begun (length log) d.attempts) k) (attempts_of configs (log ++ e ∷ []) n k)) (sym (waits k))

@@ -37,16 +37,17 @@ of_steps n (telling.update_taken m addresses) = m == n
 of_steps n (telling.arrival_judged m at from g) = m == n
 of_steps n _ = false
 
--- or that a link was made that leads to it
+-- or that a link was made that leads to it, or that its node stopped
 abbrev pub of_listener : ℕ → Telling → Bool
 of_listener n (telling.link_opened m j link to) = to == n
+of_listener n (telling.node_stopped m) = m == n
 of_listener n t = of_steps n t
 
 abbrev pub step_kinds : List ℕ
 step_kinds = 22 ∷ 23 ∷ 24 ∷ 25 ∷ 47 ∷ 48 ∷ []
 
 abbrev pub listener_kinds : List ℕ
-listener_kinds = 10 ∷ step_kinds
+listener_kinds = 1 ∷ 10 ∷ step_kinds
 
 step_reads : (n : ℕ) (t : Telling) → has step_kinds (kind t) ≡ false → of_steps n t ≡ false
 step_reads n (telling.arrival_taken m link handshake) h = cc
@@ -59,6 +60,7 @@ step_reads n _ h = refl
 
 listener_reads : (n : ℕ) (t : Telling) → has listener_kinds (kind t) ≡ false → of_listener n t ≡ false
 listener_reads n (telling.link_opened m j link to) h = cc
+listener_reads n (telling.node_stopped m) h = cc
 listener_reads n (telling.arrival_taken m link handshake) h = cc
 listener_reads n (telling.handshake_begun m k) h = cc
 listener_reads n (telling.handshake_took m k items) h = cc
@@ -104,7 +106,7 @@ module _ (log : List Entry) (e : Entry) (n : ℕ) where
         less (telling.arrival_judged m at from g) is = is
         less _ is = refl
 
-  -- ---- nor that a link leads to it
+  -- ---- nor that a link leads to it, or that its node stopped
 
   pub listener_untold : (configs : List Config) → list_any (of_listener n) (tells (told log) log e) ≡ false → line (log ++ e ∷ []) (queue.Arrivals n) ≡ line log (queue.Arrivals n) → LeavesListener configs log e n
   listener_untold configs none same = record {
@@ -117,6 +119,7 @@ module _ (log : List Entry) (e : Entry) (n : ℕ) where
     where
       less : (t : Telling) → of_listener n t ≡ false → of_steps n t ≡ false
       less (telling.link_opened m j link to) is = refl
+      less (telling.node_stopped m) is = refl
       less t is = is
 
       steps : list_any (of_steps n) (tells (told log) log e) ≡ false
@@ -126,10 +129,15 @@ module _ (log : List Entry) (e : Entry) (n : ℕ) where
       none_read true c x h = cc
       none_read false c x h = refl
 
+      none_there : {X : Type 0} (b : Bool) (x : X) → b ≡ false → is_some (cond b (Some x) None) ≡ false
+      none_there true x h = cc
+      none_there false x h = refl
+
       fewer : (k : ℕ) (t : Telling) → of_listener n t ≡ false → reads_some (has_listening n k) t ≡ false
       fewer k (telling.link_opened m j link to) is = none_read (to == n) (k == link) (Some listening.Arriving) is
       fewer k (telling.arrival_taken m link handshake) is = none_read (m == n) (k == link) (option_map listening.Handshake handshake) is
       fewer k (telling.handshake_ended m h link) is = none_read (m == n) (k == link) None is
+      fewer k (telling.node_stopped m) is = none_there (m == n) None is
       fewer k _ is = refl
 
 -- a step of the listener tells no handshake anything

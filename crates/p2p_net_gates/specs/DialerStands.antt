@@ -17,7 +17,7 @@ use Rattle.p2p_log.specs.declared.event.Act.{Act}
 use Rattle.p2p_log.specs.declared.event.Act.TheVariants as act
 use Rattle.p2p_log.specs.Lines.{name_of, line}
 use Rattle.p2p_log_rules.specs.Attempting.{Attempt, attempts_of}
-use Rattle.p2p_log_rules.specs.Facts.{starts, is_up}
+use Rattle.p2p_log_rules.specs.Facts.{turns, is_up}
 use Rattle.p2p_log_rules.specs.Dialing.{Dials, dials_of}
 use Rattle.p2p_net_queues.specs.Tables as table
 use Rattle.p2p_net_gates.specs.Dialing.{gates_of}
@@ -93,7 +93,7 @@ is_of_dialer n _ = false
 
 -- an entry that leaves it alone
 pub record LeavesDialer (configs : List Config) (log : List Entry) (e : Entry) (n : ℕ) : Type 0 where
-  pub no_start : starts n e.event.act ≡ false
+  pub no_turn : turns n e.event.act ≡ false
   pub dials : dials_of configs (log ++ e ∷ []) n ≡ dials_of configs log n
   pub tries : (k : ℕ) → attempts_of configs (log ++ e ∷ []) n k ≡ attempts_of configs log n k
   pub lines : (k : ℕ) → line (log ++ e ∷ []) (queue.Attempt n k) ≡ line log (queue.Attempt n k)

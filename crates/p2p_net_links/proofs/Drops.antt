@@ -47,22 +47,28 @@ idle_admits : (r : Reply) → is_idle_reply r ≡ true → turns_away r ≡ fals
 idle_admits (reply.Gates g) h = cc
 idle_admits _ h = refl
 
+-- whether an act stops a node, by which many ends are dropped
+abbrev pub is_stop : Act → Bool
+is_stop (act.Stop by_start n) = true
+is_stop _ = false
+
 -- by what it comes to: nothing was given up or broken off, nobody was turned away, and no connection ended
-done_by : (log : List Entry) (e : Entry) (a : Act) → e.event.act ≡ a → gave_up e.puts ≡ false → broke_off e.reply (taken log e) e.puts ≡ false → is_end e.reply ≡ false
+done_by : (log : List Entry) (e : Entry) (a : Act) → e.event.act ≡ a → is_stop a ≡ false → gave_up e.puts ≡ false → broke_off e.reply (taken log e) e.puts ≡ false → is_end e.reply ≡ false
     → turns_away e.reply ≡ false → DropsNone log e
-done_by log e (act.Attempt k n) is kept whole lives let_in = drops_of-attempt log e k n is ∙ unless (gave_up e.puts) (dialing_end log n k) kept
-done_by log e (act.Handshake h n) is kept whole lives let_in = drops_of-handshake log e h n is ∙ unless (broke_off e.reply (taken log e) e.puts) (Some ((peer_at log h).link, side.In)) whole
-done_by log e (act.SendStep conn n) is kept whole lives let_in = drops_of-send log e conn n is ∙ unless (is_end e.reply) (half_end (half_at log n conn)) lives
-done_by log e (act.RecvStep conn n) is kept whole lives let_in = drops_of-receive log e conn n is ∙ unless (is_end e.reply) (half_end (half_at log n conn)) lives
-done_by log e (act.Listener n) is kept whole lives let_in = drops_of-listener log e n is ∙ unless (turns_away e.reply) (arrival_end (taken log e)) let_in
-done_by log e _ is kept whole lives let_in = drops_of-none log e (ap drops_none is)
+done_by log e (act.Attempt k n) is goes_on kept whole lives let_in = drops_of-attempt log e k n is ∙ unless (gave_up e.puts) (dialing_end log n k) kept
+done_by log e (act.Handshake h n) is goes_on kept whole lives let_in = drops_of-handshake log e h n is ∙ unless (broke_off e.reply (taken log e) e.puts) (Some ((peer_at log h).link, side.In)) whole
+done_by log e (act.SendStep conn n) is goes_on kept whole lives let_in = drops_of-send log e conn n is ∙ unless (is_end e.reply) (half_end (half_at log n conn)) lives
+done_by log e (act.RecvStep conn n) is goes_on kept whole lives let_in = drops_of-receive log e conn n is ∙ unless (is_end e.reply) (half_end (half_at log n conn)) lives
+done_by log e (act.Listener n) is goes_on kept whole lives let_in = drops_of-listener log e n is ∙ unless (turns_away e.reply) (arrival_end (taken log e)) let_in
+done_by log e (act.Stop by_start n) is goes_on kept whole lives let_in = cc
+done_by log e _ is goes_on kept whole lives let_in = drops_of-none log e (ap drops_none is)
 
-pub drops_none-done : (log : List Entry) (e : Entry) → gave_up e.puts ≡ false → broke_off e.reply (taken log e) e.puts ≡ false → is_end e.reply ≡ false → turns_away e.reply ≡ false → DropsNone log e
-drops_none-done log e kept whole lives let_in = done_by log e e.event.act refl kept whole lives let_in
+pub drops_none-done : (log : List Entry) (e : Entry) → is_stop e.event.act ≡ false → gave_up e.puts ≡ false → broke_off e.reply (taken log e) e.puts ≡ false → is_end e.reply ≡ false → turns_away e.reply ≡ false → DropsNone log e
+drops_none-done log e goes_on kept whole lives let_in = done_by log e e.event.act refl goes_on kept whole lives let_in
 
-pub drops_none-idle : (log : List Entry) (e : Entry) → is_idle_reply e.reply ≡ true → e.puts ≡ [] → DropsNone log e
-drops_none-idle log e idle none =
-    drops_none-done log e (ap gave_up none) (idle_breaks e.reply (taken log e) e.puts idle) (idle_lives e.reply idle) (idle_admits e.reply idle)
+pub drops_none-idle : (log : List Entry) (e : Entry) → is_stop e.event.act ≡ false → is_idle_reply e.reply ≡ true → e.puts ≡ [] → DropsNone log e
+drops_none-idle log e goes_on idle none =
+    drops_none-done log e goes_on (ap gave_up none) (idle_breaks e.reply (taken log e) e.puts idle) (idle_lives e.reply idle) (idle_admits e.reply idle)
 
 -- ---- a half that ends its connection drops the end that it writes to
 

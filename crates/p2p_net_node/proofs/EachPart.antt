@@ -7,6 +7,7 @@ use Rattle.p2p_log.specs.declared.config.Config.{Config}
 use Rattle.p2p_log.specs.declared.entry.Entry.{Entry}
 use Rattle.p2p_log.specs.declared.event.Event.{Event}
 use Rattle.p2p_log_rules.specs.Effect.{effect}
+use Rattle.p2p_log_rules.specs.Facts.{stops}
 use Rattle.p2p_net_channels.specs.Stands.{ChannelsStand}
 use Rattle.p2p_net_connections.specs.Stands.{ConnectionsStand}
 use Rattle.p2p_net_tracker.specs.Stands.{TrackerStands}
@@ -17,7 +18,7 @@ use Rattle.p2p_net_node.specs.Places.{Part, router, channels, connections, track
 use Rattle.p2p_net_node.specs.Stands.{RouterStands, PartStands, OwnStands, NodeStands}
 use Rattle.p2p_net_node.specs.declared.node.Node.{Node}
 use Rattle.p2p_net_node.proofs.Touching.{first_false, second_false}
-use Rattle.p2p_net_node.proofs.Frames.{MakesUnbegun, makes_none, part_frame}
+use Rattle.p2p_net_node.proofs.Frames.{MakesUnbegun, makes_none, part_frame, lasts_after}
 use Rattle.p2p_log_rules.proofs.Steps.{steps_spawner}
 
 abbrev pub is_in : Part → List Part → Bool
@@ -98,13 +99,14 @@ links_apart p n = refl
 pub not_among-links : (ps : List Part) (p : Part) (n : ℕ) → is_in p ps ≡ false → list_any (λ q. same_place q (at p n)) (and_links (parts_of n ps)) ≡ false
 not_among-links ps p n out = ap (λ b. b || list_any (λ r. same_place r (at p n)) (parts_of n ps)) (links_apart p n) ∙ not_among ps p n n out
 
--- a node of which an act changed these parts, of whose connections it makes none that has begun
+-- a node of which an act changed these parts, of whose connections it makes none that has begun, and which it does not stop
 pub each_part-made :
     (configs : List Config) (log : List Entry) (ev : Event) (n : ℕ) (x y : Node) (ps : List Part) → NodeStands configs log n x → y ≡ with_parts ps x y
-    → ((p : Part) → is_in p ps ≡ false → names log ev.act (at p n) ≡ false) → MakesUnbegun log n ev.act
+    → ((p : Part) → is_in p ps ≡ false → names log ev.act (at p n) ≡ false) → MakesUnbegun log n ev.act → stops n ev.act ≡ false
     → AllOf (λ p. PartStands p configs (log ++ effect configs log ev ∷ []) n y) ps → NodeStands configs (log ++ effect configs log ev ∷ []) n y
-each_part-made configs log ev n x y ps s same unnamed late all = record {
+each_part-made configs log ev n x y ps s same unnamed late goes_on all = record {
   own = subst (OwnStands configs n) (sym same) (record { config = s.own.config; retained = s.own.retained; works = s.own.works });
+  lasts = lasts_after configs log ev n s.lasts goes_on;
   each = λ p. by p (is_in p ps) refl;
 }
   where
@@ -117,6 +119,6 @@ each_part-made configs log ev n x y ps s same unnamed late all = record {
 -- and by an act that is no step of its spawner
 pub each_part :
     (configs : List Config) (log : List Entry) (ev : Event) (n : ℕ) (x y : Node) (ps : List Part) → NodeStands configs log n x → y ≡ with_parts ps x y
-    → ((p : Part) → is_in p ps ≡ false → names log ev.act (at p n) ≡ false) → steps_spawner n ev.act ≡ false
+    → ((p : Part) → is_in p ps ≡ false → names log ev.act (at p n) ≡ false) → steps_spawner n ev.act ≡ false → stops n ev.act ≡ false
     → AllOf (λ p. PartStands p configs (log ++ effect configs log ev ∷ []) n y) ps → NodeStands configs (log ++ effect configs log ev ∷ []) n y
-each_part configs log ev n x y ps s same unnamed none all = each_part-made configs log ev n x y ps s same unnamed (makes_none log n ev.act none) all
+each_part configs log ev n x y ps s same unnamed none goes_on all = each_part-made configs log ev n x y ps s same unnamed (makes_none log n ev.act none) goes_on all

@@ -17,7 +17,8 @@ use Rattle.p2p_log.specs.declared.event.Act.{Act}
 use Rattle.p2p_log.specs.declared.event.Act.TheVariants as act
 use Rattle.p2p_log.specs.Lines.{live, line, stands_in}
 use Rattle.p2p_log_rules.specs.Connections.{is_done, begins, is_begun, ends_connection}
-use Rattle.p2p_log_rules.specs.Facts.{starts, registers_at, with_capacity, taken}
+use Rattle.p2p_log_rules.specs.Facts.{stops, turns, is_stopped, registers_at, with_capacity, taken}
+use Rattle.p2p_log_rules.proofs.Channels.{is_stopped-kept}
 use Rattle.p2p_log_rules.proofs.Families.{kinds_of, are_apart}
 use Rattle.p2p_log_rules.proofs.Spawning.{connections_of-unmade}
 use Rattle.p2p_log_rules.specs.Effect.{row, effect}
@@ -48,14 +49,14 @@ use Rattle.p2p_net_connections.proofs.SpawnerChanges.{spawner_kept}
 use Rattle.p2p_net_node.specs.Places.{Part, router, channels, connections, tracker, dialer, listener, spawner, same_part, links, home, names, at, asked_node, or_first, node_asked}
 use Rattle.p2p_net_node.specs.Stands.{RouterStands, PartStands}
 use Rattle.p2p_net_node.specs.declared.node.Node.{Node}
-use Rattle.p2p_net_node.proofs.ActKinds.{registers_unless, starts_unless, sends_unless}
+use Rattle.p2p_net_node.proofs.ActKinds.{registers_unless, turns_unless, sends_unless}
 use Rattle.p2p_net_node.proofs.Receivers.{receives_unnamed, admits_unnamed, sends_unnamed, closes_unnamed}
 use Rattle.p2p_net_node.proofs.Routers.{HearsTheSame, hears_kept, hears_late, RouterStands-moved}
-use Rattle.p2p_net_node.proofs.Touching.{line-unnamed}
-use Rattle.p2p_log_rules.proofs.Connections.{steps_sender, steps_receiver, begins_act, live_connection-kept, ends_none-act}
+use Rattle.p2p_net_node.proofs.Touching.{stop_names, line-unnamed}
+use Rattle.p2p_log_rules.proofs.Connections.{may_end, steps_sender, steps_receiver, begins_act, live_connection-kept, ends_none-act}
 use Rattle.p2p_log_rules.specs.Handshakes.{handshakes_of}
 use Rattle.p2p_log_rules.specs.Told.{tells, told}
-use Rattle.p2p_log_rules.proofs.Handshakes.{handshake_kinds, handshakes_of-apart, handshakes_of-elsewhere, handshakes_of-another}
+use Rattle.p2p_log_rules.proofs.Handshakes.{of_handshakes, handshake_kinds, handshakes_of-kept, handshakes_of-apart, handshakes_of-elsewhere, handshakes_of-another}
 use Rattle.p2p_log_rules.proofs.LinkTells.{quiet_told}
 use Rattle.p2p_log_rules.proofs.Routing.{route_kinds}
 use Rattle.p2p_log_rules.proofs.Steps.{steps_tracker, steps_spawner}
@@ -69,25 +70,44 @@ effect-act configs log ev = refl
 
 -- ---- what ends
 
--- a step of a half names the connections, the router and the tracker of its node, so an act that names one of these not ends none of
--- its connections
-abbrev steps_half : ℕ → ℕ → Act → Bool
-steps_half n conn a = steps_sender n conn a || steps_receiver n conn a
-
-connections_apart : (log : List Entry) (n conn : ℕ) (a : Act) → names log a (at connections n) ≡ false → steps_half n conn a ≡ false
+-- a step of a half, and a stop, name the connections, the router and the tracker of their node, so an act that names one of these not ends
+-- none of its connections
+connections_apart : (log : List Entry) (n conn : ℕ) (a : Act) → names log a (at connections n) ≡ false → may_end n conn a ≡ false
 connections_apart log n conn (act.SendStep d m) h = grind (arith, nat_tests)
 connections_apart log n conn (act.RecvStep d m) h = grind (arith, nat_tests)
+connections_apart log n conn (act.Stop by_start m) h = grind (arith, nat_tests)
 connections_apart log n conn _ h = refl
 
-router_apart : (log : List Entry) (n conn : ℕ) (a : Act) → names log a (at router n) ≡ false → steps_half n conn a ≡ false
+router_apart : (log : List Entry) (n conn : ℕ) (a : Act) → names log a (at router n) ≡ false → may_end n conn a ≡ false
 router_apart log n conn (act.SendStep d m) h = grind (arith, nat_tests)
 router_apart log n conn (act.RecvStep d m) h = grind (arith, nat_tests)
+router_apart log n conn (act.Stop by_start m) h = grind (arith, nat_tests)
 router_apart log n conn _ h = refl
 
-tracker_apart : (log : List Entry) (n conn : ℕ) (a : Act) → names log a (at tracker n) ≡ false → steps_half n conn a ≡ false
+tracker_apart : (log : List Entry) (n conn : ℕ) (a : Act) → names log a (at tracker n) ≡ false → may_end n conn a ≡ false
 tracker_apart log n conn (act.SendStep d m) h = grind (arith, nat_tests)
 tracker_apart log n conn (act.RecvStep d m) h = grind (arith, nat_tests)
+tracker_apart log n conn (act.Stop by_start m) h = grind (arith, nat_tests)
 tracker_apart log n conn _ h = refl
+
+-- ---- what stops
+
+-- a stop names each part of its node, so an act that does not name one does not stop it
+pub stops_unnamed : (log : List Entry) (n : ℕ) (p : Part) (a : Act) → names log a (at p n) ≡ false → stops n a ≡ false
+stops_unnamed log n p (act.Stop by_start m) h = by (m == n) refl
+  where
+    by : (b : Bool) → (m == n) ≡ b → b ≡ false
+    by false is = refl
+    by true is = absurd (false≢true (sym h ∙ (ap (λ k. names log (act.Stop by_start k) (at p n)) (eqb-true m n is) ∙ stop_names log by_start n p)))
+stops_unnamed log n p _ h = refl
+
+-- a node that has not stopped has not after an act that does not stop it
+pub lasts_after : (configs : List Config) (log : List Entry) (ev : Event) (n : ℕ) → is_stopped log n ≡ false → stops n ev.act ≡ false → is_stopped (log ++ effect configs log ev ∷ []) n ≡ false
+lasts_after configs log ev n lasts none = is_stopped-kept log (effect configs log ev) n (ap (stops n) (effect-act configs log ev) ∙ none) ∙ lasts
+
+-- nor after one that does not name its parts
+pub lasts_unnamed : (configs : List Config) (log : List Entry) (ev : Event) (n : ℕ) → is_stopped log n ≡ false → names log ev.act (at tracker n) ≡ false → is_stopped (log ++ effect configs log ev ∷ []) n ≡ false
+lasts_unnamed configs log ev n lasts h = lasts_after configs log ev n lasts (stops_unnamed log n tracker ev.act h)
 
 -- ---- channels
 
@@ -120,15 +140,17 @@ routed_none : (log : List Entry) (e : Entry) (n : ℕ) (a : Act) → e.event.act
 routed_none log e n (act.Router m) is h = unrouted_elsewhere log e n m is (grind (arith, nat_tests))
 routed_none log e n a is h = unrouted_apart log e n (ap (λ b. are_apart (kinds_of b) route_kinds) is)
 
-starts_none : (log : List Entry) (n : ℕ) (a : Act) → names log a (at router n) ≡ false → starts n a ≡ false
-starts_none log n a h = starts_unless n a (λ m is. let f : names log (act.Start m) (at router n) ≡ false = sym (ap (λ x. names log x (at router n)) is) ∙ h in grind (arith, nat_tests))
+turns_none : (log : List Entry) (n : ℕ) (a : Act) → names log a (at router n) ≡ false → turns n a ≡ false
+turns_none log n a h =
+    turns_unless n a (λ m is. let f : names log (act.Start m) (at router n) ≡ false = sym (ap (λ x. names log x (at router n)) is) ∙ h in grind (arith, nat_tests))
+    (λ by_start m is. let f : names log (act.Stop by_start m) (at router n) ≡ false = sym (ap (λ x. names log x (at router n)) is) ∙ h in grind (arith, nat_tests))
 
 pub beside_by : (configs : List Config) (log : List Entry) (e : Entry) (n : ℕ) (a : Act) → e.event.act ≡ a → names log a (at router n) ≡ false → ((conn : ℕ) → ends_connection n conn log e ≡ false) → IsBeside configs log e n
 beside_by configs log e n a is h lives = record {
   no_end = lives;
   no_step = routed_none log e n a is h;
   no_channel = ap (registers_at configs n) is ∙ registers_none configs log n router a (λ c m rate k. grind (arith, nat_tests)) h;
-  no_start = ap (starts n) is ∙ starts_none log n a h;
+  no_turn = ap (turns n) is ∙ turns_none log n a h;
 }
 
 router_home : (n : ℕ) (q : Queue) → is_routers n q ≡ true → home q ≡ at router n
@@ -163,7 +185,8 @@ hears_unnamed configs log ev n h late = by (steps_spawner n ev.act) refl
     idle : (conn : ℕ) → begins n conn log e ≡ false
     idle conn =
         begins_act log e n conn ev.act (effect-act configs log ev)
-        ∙ ap (λ b. b && is_done e.reply) (first_half (steps_sender n conn ev.act) (steps_receiver n conn ev.act) (router_apart log n conn ev.act h))
+        ∙ ap (λ b. b && is_done e.reply)
+        (first_half (steps_sender n conn ev.act) (steps_receiver n conn ev.act) (first_half (steps_sender n conn ev.act || steps_receiver n conn ev.act) (stops n ev.act) (router_apart log n conn ev.act h)))
 
     lives : (conn : ℕ) → ends_connection n conn log e ≡ false
     lives conn = ends_none-act log e n conn ev.act (effect-act configs log ev) (router_apart log n conn ev.act h)
@@ -257,8 +280,10 @@ told_home n _ h = cc
 
 -- ---- the dialer
 
-dialer_starts_none : (log : List Entry) (n : ℕ) (a : Act) → names log a (at dialer n) ≡ false → starts n a ≡ false
-dialer_starts_none log n a h = starts_unless n a (λ m is. let f : names log (act.Start m) (at dialer n) ≡ false = sym (ap (λ x. names log x (at dialer n)) is) ∙ h in grind (arith, nat_tests))
+dialer_turns_none : (log : List Entry) (n : ℕ) (a : Act) → names log a (at dialer n) ≡ false → turns n a ≡ false
+dialer_turns_none log n a h =
+    turns_unless n a (λ m is. let f : names log (act.Start m) (at dialer n) ≡ false = sym (ap (λ x. names log x (at dialer n)) is) ∙ h in grind (arith, nat_tests))
+    (λ by_start m is. let f : names log (act.Stop by_start m) (at dialer n) ≡ false = sym (ap (λ x. names log x (at dialer n)) is) ∙ h in grind (arith, nat_tests))
 
 dials_none : (log : List Entry) (n : ℕ) (a : Act) → names log a (at dialer n) ≡ false → is_of_dialer n a ≡ false
 dials_none log n (act.Dialer m) h = grind (arith, nat_tests)
@@ -281,12 +306,19 @@ listener_unnamed log e n (act.Handshake k m) acts h =
 listener_unnamed log e n (act.Connect d from m to) acts h =
     let other : (to == n) ≡ false = grind (arith, nat_tests) in
     quiet_told (told log) log e (of_listener n) (act.Connect d from m to) acts (refl, other)
+listener_unnamed log e n (act.Stop by_start m) acts h =
+    let other : (m == n) ≡ false = grind (arith, nat_tests) in
+    quiet_told (told log) log e (of_listener n) (act.Stop by_start m) acts (record { stops = other; attempt = λ k. refl; handshake = λ k link. other; connection = λ conn. refl; drops = λ link s. refl })
 listener_unnamed log e n a acts h = listener_apart log e n (ap (λ b. are_apart (kinds_of b) listener_kinds) acts)
 
 -- a step of it, or of a handshake of it, names its tracker too
 handshakes_unnamed : (log : List Entry) (e : Entry) (n : ℕ) (a : Act) → e.event.act ≡ a → names log a (at tracker n) ≡ false → handshakes_of (log ++ e ∷ []) n ≡ handshakes_of log n
 handshakes_unnamed log e n (act.Listener m) acts h = let other : (m == n) ≡ false = grind (arith, nat_tests) in handshakes_of-elsewhere log e n m other acts
 handshakes_unnamed log e n (act.Handshake k m) acts h = let other : (m == n) ≡ false = grind (arith, nat_tests) in handshakes_of-another log e n k m other acts
+handshakes_unnamed log e n (act.Stop by_start m) acts h =
+    let other : (m == n) ≡ false = grind (arith, nat_tests) in
+    handshakes_of-kept log e n
+    (quiet_told (told log) log e (of_handshakes n) (act.Stop by_start m) acts (record { stops = refl; attempt = λ k. refl; handshake = λ k link. other; connection = λ conn. refl; drops = λ link s. refl }))
 handshakes_unnamed log e n a acts h = handshakes_of-apart log e n (ap (λ b. are_apart (kinds_of b) handshake_kinds) acts)
 
 -- ---- all parts
@@ -330,7 +362,7 @@ part_frame dialer configs log ev n x s h late =
     let e = effect configs log ev in
     let acts = effect-act configs log ev in
     dialer_frame configs log e n x.dialing s
-    (dialer_unmoved configs log e n (ap (starts n) acts ∙ dialer_starts_none log n ev.act h) (ap (is_of_dialer n) acts ∙ dials_none log n ev.act h) (λ k. line-unnamed configs log ev (queue.Attempt n k) h))
+    (dialer_unmoved configs log e n (ap (turns n) acts ∙ dialer_turns_none log n ev.act h) (ap (is_of_dialer n) acts ∙ dials_none log n ev.act h) (λ k. line-unnamed configs log ev (queue.Attempt n k) h))
 part_frame listener configs log ev n x s h late =
     let e = effect configs log ev in
     listener_frame configs log e n x.listening s
@@ -351,6 +383,7 @@ undropped log (act.Handshake e n) h = cc
 undropped log (act.SendStep conn n) h = cc
 undropped log (act.RecvStep conn n) h = cc
 undropped log (act.Listener n) h = cc
+undropped log (act.Stop by_start n) h = cc
 undropped log _ h = refl
 
 -- the links, where an act does not name them

@@ -19,6 +19,7 @@ use Rattle.p2p_log_rules.proofs.Connections.{steps_sender, steps_receiver, begin
 use Rattle.p2p_log_rules.specs.Tellings.{last_or}
 use Rattle.p2p_log_rules.specs.Told.{asks_list, answer_tells, ask_tells, told}
 use Rattle.p2p_log_rules.proofs.Attempts.{attempt_told}
+use Rattle.p2p_log_rules.proofs.Channels.{is_stopped-kept}
 use Rattle.p2p_log_rules.proofs.Closing.{is_closed-kept}
 use Rattle.p2p_log_rules.proofs.AttemptTellings.{attempts_of-act, tries, attempts_of-kept, asks_told}
 use Rattle.p2p_log_rules.proofs.Dialing.{dials_of-still}
@@ -27,7 +28,7 @@ use Rattle.p2p_net_gates.proofs.DialerChanges.{dialer_frame}
 use Rattle.p2p_net_gates.proofs.ListenerChanges.{listener_frame}
 use Rattle.p2p_log_rules.specs.Connections.{half_at, is_done, begins, is_end, ends_connection}
 use Rattle.p2p_log_rules.specs.Dropping.{half_end}
-use Rattle.p2p_log_rules.specs.Facts.{starts, registers_at, taken, item_named, with_named}
+use Rattle.p2p_log_rules.specs.Facts.{stops, turns, registers_at, taken, item_named, with_named}
 use Rattle.p2p_log_rules.proofs.Spawning.{connections_of-untaken}
 use Rattle.p2p_log_rules.specs.Effect.{only, row, effect}
 use Rattle.p2p_log_rules.specs.Handshakes.{ends_handshake, handshakes_of, peer_at}
@@ -42,20 +43,20 @@ use Rattle.p2p_net_connections.proofs.Changes.{connections_frame}
 use Rattle.p2p_net_links.specs.Stands.{LinksStand}
 use Rattle.p2p_net_links.specs.declared.links.Links.{Links}
 use Rattle.p2p_net_links.proofs.Changes.{OpensNone, opening_kinds, openings_unmoved, is_ok_reply, openings_unanswered, links_frame}
-use Rattle.p2p_net_links.proofs.Drops.{DropsNone, is_idle_reply, drops_none-act, drops_none-idle}
+use Rattle.p2p_net_links.proofs.Drops.{DropsNone, is_idle_reply, is_stop, drops_none-act, drops_none-idle}
 use Rattle.p2p_net_gates.proofs.Handshakes.{nothing_tells}
 use Rattle.p2p_net_connections.proofs.SpawnerChanges.{spawner_kept}
 use Rattle.p2p_net_node.specs.Places.{Part, router, channels, connections, tracker, dialer, listener, spawner}
 use Rattle.p2p_net_node.specs.Stands.{PartStands, NodeStands, WorldStands}
 use Rattle.p2p_net_node.specs.declared.node.Node.{Node}
-use Rattle.p2p_net_node.proofs.ActKinds.{registers_unless, starts_unless}
+use Rattle.p2p_net_node.proofs.ActKinds.{registers_unless, turns_unless, turns_starts, turns_stops}
 use Rattle.p2p_net_node.proofs.Receivers.{receives_nothing, admits_nothing, SendsNothing, sends_apart, closes_apart}
 use Rattle.p2p_net_node.proofs.Routers.{HearsTheSame, hears_kept, RouterStands-idle}
 use Rattle.p2p_log_rules.proofs.Connections.{live_connection-kept}
 use Rattle.p2p_log_rules.specs.declared.row.ListeningEnd.{ListeningEnd}
 use Rattle.p2p_log_rules.specs.Links.{listening_ends_of}
 use Rattle.p2p_log_rules.proofs.Families.{kinds_of, are_apart}
-use Rattle.p2p_log_rules.proofs.Handshakes.{Begins, Ends, handshakes_now}
+use Rattle.p2p_log_rules.proofs.Handshakes.{Begins, Ends, Stops, handshakes_now}
 use Rattle.p2p_log_rules.proofs.Links.{listening_kinds, listening_ends_of-apart, listening_ends_of-listened, listening_ends_of-shaken}
 use Rattle.p2p_tracker_calls.specs.declared.gates.Reply.TheVariants as gates
 use Rattle.p2p_log_rules.proofs.Steps.{steps_tracker}
@@ -78,10 +79,11 @@ pub record Simulates (configs : List Config) (log : List Entry) (ev : Event) (no
 
 -- ---- acts that move nothing
 
--- whether an act with this reply registers, starts, begins, ends, sends, drops and closes nothing, and leaves the trackers alone
+-- whether an act with this reply registers, starts, stops, begins, ends, sends, drops and closes nothing, and leaves the trackers alone
 abbrev pub is_quiet : Act → Reply → Bool
 is_quiet (act.Register c n rate) r = false
 is_quiet (act.Start n) r = false
+is_quiet (act.Stop by_start n) r = false
 is_quiet (act.SendStep conn n) reply.Ok = false
 is_quiet (act.SendStep conn n) (reply.Ended why) = false
 is_quiet (act.SendStep conn n) r = true
@@ -116,8 +118,8 @@ is_quiet a r = true
 quiet_registers : (configs : List Config) (n : ℕ) (a : Act) (r : Reply) → is_quiet a r ≡ true → registers_at configs n a ≡ []
 quiet_registers configs n a r h = registers_unless configs n a (λ c m rate is. let t : false ≡ true = sym (ap (λ x. is_quiet x r) is) ∙ h in cc)
 
-quiet_starts : (n : ℕ) (a : Act) (r : Reply) → is_quiet a r ≡ true → starts n a ≡ false
-quiet_starts n a r h = starts_unless n a (λ m is. let t : false ≡ true = sym (ap (λ x. is_quiet x r) is) ∙ h in cc)
+quiet_turns : (n : ℕ) (a : Act) (r : Reply) → is_quiet a r ≡ true → turns n a ≡ false
+quiet_turns n a r h = turns_unless n a (λ m is. let t : false ≡ true = sym (ap (λ x. is_quiet x r) is) ∙ h in cc) (λ by_start m is. let t : false ≡ true = sym (ap (λ x. is_quiet x r) is) ∙ h in cc)
 
 -- no connection begins
 quiet_begins : (n conn : ℕ) (a : Act) (r : Reply) → is_quiet a r ≡ true → (steps_sender n conn a && is_done r) ≡ false
@@ -139,7 +141,7 @@ quiet_ends n conn _ r h = refl
 
 still_ends : (log : List Entry) (e : Entry) (n conn : ℕ) (a : Act) (rep : Reply) → e.event.act ≡ a → e.reply ≡ rep → is_quiet a rep ≡ true → ends_connection n conn log e ≡ false
 still_ends log e n conn a rep is told q =
-    ends_act log e n conn a is
+    ends_act log e n conn a is (turns_stops n a (quiet_turns n a rep q))
     ∙ (ap (λ r. (steps_sender n conn a || steps_receiver n conn a) && is_end r) told ∙ quiet_ends n conn a rep q)
 
 -- nothing is sent
@@ -184,11 +186,12 @@ quiet_shakes h m _ items q = cc
 handshakes_still : (log : List Entry) (e : Entry) (n : ℕ) (a : Act) (rep : Reply) → e.event.act ≡ a → e.reply ≡ rep → is_quiet a rep ≡ true → handshakes_of (log ++ e ∷ []) n ≡ handshakes_of log n
 handshakes_still log e n a rep is told q = by (handshakes_now log e n)
   where
-    by : (handshakes_of (log ++ e ∷ []) n ≡ handshakes_of log n) ⊎ (Begins log e n ⊎ Ends log e n) → handshakes_of (log ++ e ∷ []) n ≡ handshakes_of log n
+    by : (handshakes_of (log ++ e ∷ []) n ≡ handshakes_of log n) ⊎ (Begins log e n ⊎ (Ends log e n ⊎ Stops log e n)) → handshakes_of (log ++ e ∷ []) n ≡ handshakes_of log n
     by (inl same) = same
     by (inr (inl begins)) =
         let quiet : false ≡ true = sym (ap (λ b. is_quiet b rep) (sym is ∙ begins.acts) ∙ ap (is_quiet (act.Listener n)) (sym told ∙ begins.replied)) ∙ q in cc
-    by (inr (inr ends)) =
+    by (inr (inr (inr stops))) = let quiet : false ≡ true = sym (ap (λ b. is_quiet b rep) (sym is ∙ stops.stop.acts)) ∙ q in cc
+    by (inr (inr (inl ends))) =
         let goes_on : ends_handshake rep (taken log e) ≡ false = quiet_shakes ends.name n rep (taken log e) (sym (ap (λ b. is_quiet b rep) (sym is ∙ ends.acts)) ∙ q) in
         let over : ends_handshake rep (taken log e) ≡ true = ap (λ r. ends_handshake r (taken log e)) (sym told) ∙ ends.over in
         cc
@@ -196,6 +199,7 @@ handshakes_still log e n a rep is told q = by (handshakes_now log e n)
 -- nothing is taken, so no listening end changes hands
 ends_still : (log : List Entry) (e : Entry) (n : ℕ) (a : Act) (rep : Reply) → e.event.act ≡ a → e.reply ≡ rep → is_quiet a rep ≡ true → taken log e ≡ [] → (k : ℕ) → listening_ends_of (log ++ e ∷ []) n k ≡ listening_ends_of log n k
 ends_still log e n (act.Connect d from m to) rep is told q none k = cc
+ends_still log e n (act.Stop by_start m) rep is told q none k = cc
 ends_still log e n (act.Listener m) rep is told q none k = listening_ends_of-listened log e n m [] is none k
 ends_still log e n (act.Handshake h m) rep is told q none k =
     let ends : ℕ → Option ListeningEnd = listening_ends_of log n in
@@ -212,6 +216,7 @@ attempts_still configs log e n k (act.Dialer m) r is quiet none =
     ∙ (ap (λ items. attempt_told rules n k (answer_tells m (last_or 0 (asks_list m) (told log)) (length log) e.event.at e.event.seed items ++ ask_tells m e.event.at items e.puts) (attempts_of configs log n k)) none
     ∙ asks_told rules n k [] m e.event.at [] e.puts (attempts_of configs log n k))
 attempts_still configs log e n k (act.Attempt d m) r is quiet none = cc
+attempts_still configs log e n k (act.Stop by_start m) r is quiet none = cc
 attempts_still configs log e n k (act.Resolve addresses d m) r is quiet none = cc
 attempts_still configs log e n k (act.Connect d from m to) r is quiet none = cc
 attempts_still configs log e n k (act.Refuse d m) r is quiet none = cc
@@ -249,7 +254,7 @@ part_still router configs log e n x a rep s is q h =
     (record {
       no_step = unrouted_untaken log e n (taken-none log e h.takes);
       no_channel = ap (registers_at configs n) is ∙ quiet_registers configs n a rep q;
-      no_start = ap (starts n) is ∙ quiet_starts n a rep q;
+      no_turn = ap (turns n) is ∙ quiet_turns n a rep q;
       no_end = λ conn. still_ends log e n conn a rep is h.reply q;
     })
     (still_hears log e n a rep is q h) h.takes h.puts h.ends s
@@ -286,8 +291,8 @@ part_still dialer configs log e n x a rep s is q h =
     let none = taken-none log e h.takes in
     dialer_frame configs log e n x.dialing s
     (record {
-      no_start = ap (starts n) is ∙ quiet_starts n a rep q;
-      dials = dials_of-still configs log e n (ap (starts n) is ∙ quiet_starts n a rep q) none h.puts;
+      no_turn = ap (turns n) is ∙ quiet_turns n a rep q;
+      dials = dials_of-still configs log e n (turns_starts n e.event.act (ap (turns n) is ∙ quiet_turns n a rep q)) none h.puts;
       tries = λ k. attempts_still configs log e n k a rep is q none;
       lines = λ k. line-still log e rep (queue.Attempt n k) h;
     })
@@ -301,6 +306,15 @@ part_still listener configs log e n x a rep s is q h =
       arrivals = line-still log e rep (queue.Arrivals n) h;
     })
 part_still spawner configs log e n x a rep s is q h = spawner_kept configs log e n x.spawning s (line-still log e rep (queue.Spawner n) h)
+
+-- a node that moves nothing
+pub still_node : (configs : List Config) (log : List Entry) (e : Entry) (n : ℕ) (x : Node) (a : Act) (rep : Reply) → NodeStands configs log n x → e.event.act ≡ a → is_quiet a rep ≡ true → IsStill e rep
+    → NodeStands configs (log ++ e ∷ []) n x
+still_node configs log e n x a rep s is q h = record {
+  own = s.own;
+  lasts = is_stopped-kept log e n (ap (stops n) is ∙ turns_stops n a (quiet_turns n a rep q)) ∙ s.lasts;
+  each = λ p. part_still p configs log e n x a rep (s.each p) is q h;
+}
 
 -- no link is opened, no exchange over one ends, and none is cut
 quiet_opens : (log : List Entry) (e : Entry) (a : Act) (rep : Reply) → e.event.act ≡ a → is_quiet a rep ≡ true → e.reply ≡ rep → OpensNone log e
@@ -346,8 +360,9 @@ read_lives conn n _ q = refl
 -- no end of a link is dropped
 still_drops : (log : List Entry) (e : Entry) (a : Act) (rep : Reply) → e.event.act ≡ a → is_quiet a rep ≡ true → IsStill e rep → DropsNone log e
 still_drops log e (act.Attempt k n) rep is q h = cc
-still_drops log e (act.Listener n) rep is q h = drops_none-idle log e (ap is_idle_reply h.reply ∙ idle_quiet (act.Listener n) rep refl q) h.puts
-still_drops log e (act.Handshake k n) rep is q h = drops_none-idle log e (ap is_idle_reply h.reply ∙ idle_quiet (act.Handshake k n) rep refl q) h.puts
+still_drops log e (act.Stop by_start n) rep is q h = cc
+still_drops log e (act.Listener n) rep is q h = drops_none-idle log e (ap is_stop is) (ap is_idle_reply h.reply ∙ idle_quiet (act.Listener n) rep refl q) h.puts
+still_drops log e (act.Handshake k n) rep is q h = drops_none-idle log e (ap is_stop is) (ap is_idle_reply h.reply ∙ idle_quiet (act.Handshake k n) rep refl q) h.puts
 still_drops log e (act.SendStep conn n) rep is q h =
     drops_of-send log e conn n is ∙ ap (λ b. all_of (cond b (half_end (half_at log n conn)) None)) (ap is_end h.reply ∙ half_lives conn n rep q)
 still_drops log e (act.RecvStep conn n) rep is q h =
@@ -380,6 +395,6 @@ stays_performs configs log ev n x y l links r rep s t is quiet row_is same kept 
     let still = effect-still configs log ev rep is in
     record {
       row_is = row_is ∙ sym is;
-      node = subst (NodeStands configs (log ++ e ∷ []) n) (sym same) (record { own = s.own; each = λ p. part_still p configs log e n x ev.act rep (s.each p) (effect-asks configs log ev) quiet still });
+      node = subst (NodeStands configs (log ++ e ∷ []) n) (sym same) (still_node configs log e n x ev.act rep s (effect-asks configs log ev) quiet still);
       linked = subst (LinksStand configs (log ++ e ∷ [])) (sym kept) (links_still configs log e ev.act rep l t (effect-asks configs log ev) quiet still);
     }

@@ -11,7 +11,7 @@ use Rattle.p2p_log.specs.declared.event.Rate.{Rate}
 use Rattle.p2p_log.specs.declared.asked.Asked.TheVariants as ask
 use Rattle.p2p_log.specs.declared.event.Act.{Act}
 use Rattle.p2p_log.specs.declared.event.Act.TheVariants as act
-use Rattle.p2p_log_rules.specs.Facts.{events_of, has_started, is_up, key_at, registered, capacity_for, capacity_in, sum_capacities}
+use Rattle.p2p_log_rules.specs.Facts.{events_of, has_started, is_up, is_stopped, key_at, registered, capacity_for, capacity_in, sum_capacities}
 use Rattle.p2p_log_rules.specs.Effect.{mailbox_size_at, limit_at}
 use Rattle.p2p_log_rules.specs.Valid.{fits, sizes_fit, gates_fit, is_quota, fits_usize}
 use Rattle.p2p_log_rules.specs.Valid as valid
@@ -50,7 +50,7 @@ started_is configs log n x s = let rout : RouterStands configs log n x.router = 
 
 -- and what was asked of it
 started_asked : (configs : List Config) (log : List Entry) (n : ℕ) (x : Node) → NodeStands configs log n x → is_started x ≡ has_started (events_of log) n
-started_asked configs log n x s = started_is configs log n x s ∙ is_up-asked log n
+started_asked configs log n x s = started_is configs log n x s ∙ is_up-asked log n s.lasts
 
 size_is : (configs : List Config) (n : ℕ) (x : Node) → OwnStands configs n x → x.config.mailbox_size ≡ mailbox_size_at configs n
 size_is configs n x s = sym (ap (λ (o : Option Config). elim o [ None ↦ 0 | Some c ↦ c.mailbox_size ]) s.config)
@@ -72,10 +72,10 @@ register_is configs log n c rate x s =
     ((not started && not (is_some o)) && is_quota rate) && (fits_usize k && fits_usize (size + (total + k)))
     in
     ap (λ b. tests b (capacity_at x.channels c) (capacity_by x rate) x.config.mailbox_size x.channels.total) (started_asked configs log n x s)
-    ∙ (ap (λ o. tests (has_started (events_of log) n) o (capacity_by x rate) x.config.mailbox_size x.channels.total) (chan.capacities c ∙ ap (λ l. capacity_in l c) (channels-asked configs log n))
+    ∙ (ap (λ o. tests (has_started (events_of log) n) o (capacity_by x rate) x.config.mailbox_size x.channels.total) (chan.capacities c ∙ ap (λ l. capacity_in l c) (channels-asked configs log n s.lasts))
     ∙ (ap (λ k. tests (has_started (events_of log) n) (capacity_in regs c) k x.config.mailbox_size x.channels.total) (capacity_is configs n rate x s.own)
     ∙ (ap (λ k. tests (has_started (events_of log) n) (capacity_in regs c) (capacity_for (slice_get configs n) rate) k x.channels.total) (size_is configs n x s.own)
-    ∙ ap (λ k. tests (has_started (events_of log) n) (capacity_in regs c) (capacity_for (slice_get configs n) rate) (mailbox_size_at configs n) k) (chan.total ∙ ap sum_capacities (channels-asked configs log n)))))
+    ∙ ap (λ k. tests (has_started (events_of log) n) (capacity_in regs c) (capacity_for (slice_get configs n) rate) (mailbox_size_at configs n) k) (chan.total ∙ ap sum_capacities (channels-asked configs log n s.lasts)))))
 
 spawned_is : (log : List Entry) (n conn : ℕ) → names_spawner n (slice_get log conn) ≡ valid.names_spawner (events_of log) n conn
 spawned_is [] n conn = refl
@@ -199,6 +199,8 @@ module _ (configs : List Config) (log : List Entry) (nodes : List Node) (links :
       there (nat_lt n (length nodes)) (may_at (slice_get nodes n) log (act.Start n)) (not (has_started (events_of log) n))
       (λ lt. asks (act.Start n) (not (has_started (events_of log) n)) lt (λ x t. ap (λ b. not b) (started_asked configs log n x t)))
       ∙ ap (λ b. b && not (has_started (events_of log) n)) (counted n)
+  may_by (act.Stop by_start n) =
+      there (nat_lt n (length nodes)) (may_at (slice_get nodes n) log (act.Stop by_start n)) false (λ lt. asks (act.Stop by_start n) false lt (λ x t. refl)) ∙ and_false (nat_lt n (length nodes))
   may_by (act.SendChecked bytes check priority) =
       let n = node_checking (slice_get log check) in
       there (nat_lt n (length nodes)) (may_at (slice_get nodes n) log (act.SendChecked bytes check priority)) (checks (slice_get log check))
@@ -308,9 +310,9 @@ releases_held configs log n lawful key x rest first is =
     let held = release_is_held configs (events_of log) log lawful n key x rest first is in
     (held, held_is_others configs (events_of log) log lawful n key held)
 
--- and a connection that the tracker is to hear of is of a key that is reserved
-connects_reserved : (configs : List Config) (log : List Entry) (n : ℕ) → IsLawful configs (events_of log) log → ConnectsReserved configs log n
-connects_reserved configs log n lawful conn key x rest first is = connect_is_reserved configs (events_of log) log lawful n conn key x rest first is
+-- and a connection that the tracker of a node that has not stopped is to hear of is of a key that is reserved
+connects_reserved : (configs : List Config) (log : List Entry) (n : ℕ) → IsLawful configs (events_of log) log → is_stopped log n ≡ false → ConnectsReserved configs log n
+connects_reserved configs log n lawful lasts conn key x rest first is = connect_is_reserved configs (events_of log) log lawful n conn key x rest lasts first is
 
 -- the nodes that an act brings together are those that it names
 ends_there : (configs : List Config) (log : List Entry) (nodes : List Node) (l : Links) → LinksStand configs log l → (a : Act) → node_of log a < length nodes → other_of log (node_of log a) a < length nodes
@@ -338,7 +340,7 @@ may_perform configs log nodes links a s lawful may =
     record {
       first = lower n (length nodes) one.0;
       ready = λ x there.
-          ready_by configs log n a x (s.each n x there) (releases_held configs log n lawful) (connects_reserved configs log n lawful) (sizes_there configs log nodes links s n x there) (sym (ap (λ o. may_at o log a) there) ∙ two.1);
+          ready_by configs log n a x (s.each n x there) (releases_held configs log n lawful) (connects_reserved configs log n lawful (s.each n x there).lasts) (sizes_there configs log nodes links s n x there) (sym (ap (λ o. may_at o log a) there) ∙ two.1);
       ends = λ how is. ends_there configs log nodes links s.linked a (lower n (length nodes) one.0) (lower m (length nodes) two.0) how is;
       sizes = λ i x there. one_mailbox x.config (sizes_there configs log nodes links s i x there);
       numbers = λ i x there. let r : RouterStands configs log i x.router = (s.each i x there).each place.router in r.number;

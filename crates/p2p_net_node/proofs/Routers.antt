@@ -16,7 +16,7 @@ use Rattle.p2p_log.specs.declared.event.Act.TheVariants as act
 use Rattle.p2p_log_rules.specs.Connections.{is_done, begins, is_begun, ends_connection, is_ended, live_connection}
 use Rattle.p2p_log_rules.specs.Facts.{is_up, taken, with_begun}
 use Rattle.p2p_log_rules.specs.Spawning.{Spawned, spawned_of, connections_of}
-use Rattle.p2p_log_rules.proofs.Connections.{steps_sender, steps_receiver, begins_act, is_begun-append, is_ended-append, live_connection-kept, ends_none-act}
+use Rattle.p2p_log_rules.proofs.Connections.{may_end, steps_sender, begins_act, is_begun-append, is_ended-append, live_connection-kept, ends_none-act}
 use Rattle.p2p_log_rules.proofs.Spawning.{connections_of-acted, connections_of-unmade}
 use Rattle.p2p_log_laws.specs.Leading.{ConnectionsAreOne}
 use Rattle.p2p_router.specs.Messenger.{is_bound, is_unbound}
@@ -64,20 +64,22 @@ hears_again log e n conn begun others = hears_same log e n (λ c. by c (c == con
         is_begun-append log e n c ∙ (ap (λ b. b || begins n c log e) before ∙ sym before)
     by c false other = begun_kept log e n c (others c other)
 
--- by its act: whether that is no step of a half, and none of a spawner
+-- by its act: whether that is no step of a half, and none of a spawner, and stops no node
 abbrev pub is_aside : Act → Bool
 is_aside (act.SendStep conn n) = false
 is_aside (act.RecvStep conn n) = false
 is_aside (act.Spawner n) = false
+is_aside (act.Stop by_start n) = false
 is_aside _ = true
 
 aside_steps : (n conn : ℕ) (a : Act) → is_aside a ≡ true → steps_sender n conn a ≡ false
 aside_steps n conn (act.SendStep d m) h = cc
 aside_steps n conn _ h = refl
 
-aside_halves : (n conn : ℕ) (a : Act) → is_aside a ≡ true → (steps_sender n conn a || steps_receiver n conn a) ≡ false
+aside_halves : (n conn : ℕ) (a : Act) → is_aside a ≡ true → may_end n conn a ≡ false
 aside_halves n conn (act.SendStep d m) h = cc
 aside_halves n conn (act.RecvStep d m) h = cc
+aside_halves n conn (act.Stop by_start m) h = cc
 aside_halves n conn _ h = refl
 
 aside_spawns : (n : ℕ) (a : Act) → is_aside a ≡ true → steps_spawner n a ≡ false

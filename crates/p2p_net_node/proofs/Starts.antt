@@ -20,7 +20,7 @@ use Rattle.p2p_net_channels.proofs.Quotas.{quotas_new}
 use Rattle.p2p_log_rules.specs.Effect.{mailbox_size_at}
 use Rattle.p2p_log_rules.specs.Listening.{no_gates, gate_rules_of}
 use Rattle.p2p_log_rules.specs.Valid.{fits, has_key, is_valid_config, config_fault_from, config_fault}
-use Rattle.p2p_log_rules.proofs.Channels.{channels-none}
+use Rattle.p2p_log_rules.proofs.Channels.{channels-none, is_stopped-none}
 use Rattle.p2p_log_rules.proofs.Connections.{is_begun-none}
 use Rattle.p2p_log.proofs.Places.{slice_get-append}
 use Rattle.p2p_net_router.specs.Stands.{StandsFor}
@@ -111,6 +111,7 @@ pub node_new :
     → NodeStands configs [] n x
 node_new configs n x config retained works small number stands none ch cs tr di li sp = record {
   own = record { config = config; retained = retained; works = works };
+  lasts = is_stopped-none n;
   each = λ p. elim p as (λ q. PartStands q configs [] n x) [
     | place.router ↦
         (record {

@@ -1,7 +1,7 @@
 -- A queue of a place that an act does not name stays as it was.
 use Rattle.std.proofs.Common.{◌≡◌, ℕ, Bool, true, false, List, [], ◌∷◌, ◌++◌, refl, ap, sym, ◌∙◌, arith, Option, Some, None}
 use Rattle.std.specs.Prelude.{◌||◌, ◌&&◌, ◌==◌, slice_get}
-use Rattle.std.specs.List.{list_any}
+use Rattle.std.specs.List.{list_any, AllByRecursion as Each}
 use Rattle.std.proofs.lemmas.Bool.Decides.{nat_tests}
 use Rattle.p2p_log_rules.proofs.Bools.{and_false}
 use Rattle.p2p_log.specs.declared.config.Config.{Config}
@@ -27,10 +27,12 @@ use Rattle.p2p_log_rules.specs.Links.{openings_of}
 use Rattle.p2p_log_rules.specs.declared.row.Half.{Half}
 use Rattle.p2p_log_rules.specs.Connections.{half_at}
 use Rattle.p2p_log_rules.proofs.Touches.{are_all, in_lists, in_mailbox_of, in_router, in_mailboxes, in_half, in_link, in_held, in_channels, in_tracker, in_handshakes, in_ends, is_told_to, away}
+use Rattle.p2p_log_rules.specs.Stopping.{emptied_at}
 use Rattle.p2p_log_rules.specs.Tracking.{asked_by}
+use Rattle.p2p_log_rules.proofs.Emptied.{OfKinds, each_emptied}
 use Rattle.p2p_log_laws.proofs.Reaching.{in_control, in_flight, in_connection, reads, writes, ends_in}
 use Rattle.p2p_log_laws.proofs.Untouched.{line-untouched}
-use Rattle.p2p_net_node.specs.Places.{home, names, at, router, channels, connections, tracker, dialer, listener, spawner, links, same_place, ends_named, asked_node, or_first, node_asked, node_checking}
+use Rattle.p2p_net_node.specs.Places.{Part, home, names, at, router, channels, connections, tracker, dialer, listener, spawner, links, same_place, ends_named, asked_node, or_first, node_asked, node_checking}
 use Rattle.p2p_net_node.proofs.Receivers.{checking_is}
 
 -- ---- what the kinds of queues that an act reaches are of
@@ -310,6 +312,42 @@ writes-named configs log (act.Finish link ok) q h =
 writes-named configs log (act.Cut link) q h = flight_off link q (first_false (same_place links (home q)) false h)
 writes-named configs log _ q h = refl
 
+-- a stop names each part of its node
+pub stop_names : (log : List Entry) (by_start : Bool) (n : ℕ) (p : Part) → names log (act.Stop by_start n) (at p n) ≡ true
+stop_names log by_start n router = grind (arith, nat_tests)
+stop_names log by_start n channels = grind (arith, nat_tests)
+stop_names log by_start n connections = grind (arith, nat_tests)
+stop_names log by_start n tracker = grind (arith, nat_tests)
+stop_names log by_start n dialer = grind (arith, nat_tests)
+stop_names log by_start n listener = grind (arith, nat_tests)
+stop_names log by_start n spawner = grind (arith, nat_tests)
+
+-- and empties queues of these, and of the links
+stop_kinds : (log : List Entry) (by_start : Bool) (n : ℕ) (q : Queue) → names log (act.Stop by_start n) (home q) ≡ false → OfKinds n (λ p. same_queue p q ≡ false)
+stop_kinds log by_start n q h = record {
+  router = off (queue.Router n) (stop_names log by_start n router);
+  tracker = off (queue.Tracker n) (stop_names log by_start n tracker);
+  spawner = off (queue.Spawner n) (stop_names log by_start n spawner);
+  arrivals = off (queue.Arrivals n) (stop_names log by_start n listener);
+  update = off (queue.Update n) (stop_names log by_start n tracker);
+  dialer = off (queue.Dialer n) (stop_names log by_start n tracker);
+  attempt = λ k. off (queue.Attempt n k) (stop_names log by_start n dialer);
+  handshake = λ k. off (queue.Handshake n k) (stop_names log by_start n tracker);
+  high = λ conn. off (queue.High n conn) (stop_names log by_start n router);
+  low = λ conn. off (queue.Low n conn) (stop_names log by_start n router);
+  held = λ conn. off (queue.Held n conn) (stop_names log by_start n connections);
+  control = λ conn. off (queue.Control n conn) (stop_names log by_start n tracker);
+  ready = λ conn. off (queue.Ready n conn) (stop_names log by_start n connections);
+  link = λ l s. off (queue.Link l s) refl;
+}
+  where
+    off : (p : Queue) → names log (act.Stop by_start n) (home p) ≡ true → same_queue p q ≡ false
+    off p named = same_queue-sym p q ∙ away (λ r. names log (act.Stop by_start n) (home r)) q p h named
+
+none_same : (qs : List Queue) (q : Queue) → Each (λ p. same_queue p q ≡ false) qs → list_any (λ p. same_queue p q) qs ≡ false
+none_same [] q each = refl
+none_same (p ∷ qs) q each = ap (λ b. b || list_any (λ r. same_queue r q) qs) each.0 ∙ none_same qs q each.1
+
 -- the queues in which it ends something
 ends-named : (configs : List Config) (log : List Entry) (a : Act) (q : Queue) → names log a (home q) ≡ false → ends_in configs log a q ≡ false
 ends-named configs log (act.SendStep conn n) q h = connection_kinds (half_at log n conn) n conn q (off_sender log conn n q h)
@@ -324,6 +362,7 @@ ends-named configs log (act.Handshake e n) q h =
     both_false (same_queue (queue.Handshake n e) q) (in_flight towards q) (handshake_queue n e q off.second) (flight_kinds towards q off.first)
 ends-named configs log (act.Listener n) q h =
     flight_kinds (arriving_end log n) q (first_false (same_place links (home q)) (same_place (at tracker n) (home q) || (same_place (at listener n) (home q) || false)) h)
+ends-named configs log (act.Stop by_start n) q h = none_same (emptied_at log n) q (each_emptied log n (λ p. same_queue p q ≡ false) (stop_kinds log by_start n q h))
 ends-named configs log a q h = writes-named configs log a q h
 
 pub line-unnamed : (configs : List Config) (log : List Entry) (ev : Event) (q : Queue) → names log ev.act (home q) ≡ false → line (log ++ effect configs log ev ∷ []) q ≡ line log q

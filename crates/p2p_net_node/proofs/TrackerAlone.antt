@@ -1,5 +1,5 @@
 -- An event that names the tracker of its node alone leaves all else as it was.
-use Rattle.std.proofs.Common.{◌≡◌, ℕ, false, List, [], ◌∷◌, ◌++◌, ap, sym, subst, ◌∙◌}
+use Rattle.std.proofs.Common.{◌≡◌, ℕ, false, List, [], ◌∷◌, ◌++◌, refl, ap, sym, subst, ◌∙◌}
 use Rattle.p2p_log.specs.declared.config.Config.{Config}
 use Rattle.p2p_log.specs.declared.entry.Entry.{Entry}
 use Rattle.p2p_log.specs.declared.event.Event.{Event}
@@ -9,12 +9,12 @@ use Rattle.p2p_net_links.specs.Stands.{LinksStand}
 use Rattle.p2p_net_links.specs.declared.links.Links.{Links}
 use Rattle.p2p_net_tracker.specs.Stands.{TrackerStands}
 use Rattle.p2p_net_tracker.specs.declared.tracker.Tracker.{Tracker}
-use Rattle.p2p_net_node.specs.Places.{Part, tracker, links, at, names}
+use Rattle.p2p_net_node.specs.Places.{Part, channels, tracker, links, at, names}
 use Rattle.p2p_net_node.specs.Staying.{Tracks}
 use Rattle.p2p_net_node.specs.Stands.{NodeStands}
 use Rattle.p2p_net_node.specs.declared.node.Node.{Node}
 use Rattle.p2p_net_node.proofs.EachPart.{is_in, each_part}
-use Rattle.p2p_net_node.proofs.Frames.{links_kept}
+use Rattle.p2p_net_node.proofs.Frames.{stops_unnamed, links_kept}
 use Rattle.p2p_net_node.proofs.Performing.{Performs}
 use Rattle.p2p_log_rules.proofs.Steps.{steps_spawner}
 
@@ -39,7 +39,7 @@ track_alone configs log ev n x y l ls r s t named alone kept done =
     record {
       row_is = done.0;
       node =
-          each_part configs log ev n x y (tracker ∷ []) s alone named.parts named.spawns
+          each_part configs log ev n x y (tracker ∷ []) s alone named.parts named.spawns (stops_unnamed log n channels ev.act (named.parts channels refl))
           (subst (λ (d : Entry). TrackerStands configs (log ++ d ∷ []) n y.tracker) (effect_is configs log ev r done.0) done.1, tt);
       linked = subst (LinksStand configs (log ++ e ∷ [])) (sym kept) (links_kept configs log ev l t named.unlinked);
     }

@@ -72,6 +72,7 @@ and_links ps = links ∷ ps
 abbrev pub parts_named : Act → List Part
 parts_named (act.Register c n rate) = channels ∷ router ∷ []
 parts_named (act.Start n) = router ∷ dialer ∷ []
+parts_named (act.Stop by_start n) = router ∷ channels ∷ connections ∷ tracker ∷ dialer ∷ listener ∷ spawner ∷ []
 parts_named (act.Send bytes c n priority to) = channels ∷ router ∷ []
 parts_named (act.Check c n to) = channels ∷ router ∷ []
 parts_named (act.SendChecked bytes check priority) = channels ∷ router ∷ []
@@ -92,6 +93,7 @@ parts_named _ = tracker ∷ []
 
 -- whether it names the links
 abbrev pub names_links : Act → Bool
+names_links (act.Stop by_start n) = true
 names_links (act.SendStep conn n) = true
 names_links (act.RecvStep conn n) = true
 names_links (act.Listener n) = true
@@ -143,6 +145,7 @@ nodes_linked (Some e) = linked_by e.event.act
 abbrev pub node_of : List Entry → Act → ℕ
 node_of log (act.Register c n rate) = n
 node_of log (act.Start n) = n
+node_of log (act.Stop by_start n) = n
 node_of log (act.Send bytes c n priority to) = n
 node_of log (act.Check c n to) = n
 node_of log (act.SendChecked bytes check priority) = node_checking (slice_get log check)

@@ -82,6 +82,7 @@ subscribes (Some e) = is_some (subscribed_by e.event.act)
 abbrev pub may_ask : List Entry → Node → Act → Bool
 may_ask log x (act.Register c n rate) = may_register x c rate
 may_ask log x (act.Start n) = not (is_started x)
+may_ask log x (act.Stop by_start n) = false
 may_ask log x (act.SendChecked bytes check priority) = checks (slice_get log check)
 may_ask log x (act.SendStep conn n) = names_spawner n (slice_get log conn)
 may_ask log x (act.RecvStep conn n) = names_spawner n (slice_get log conn)

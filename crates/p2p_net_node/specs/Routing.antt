@@ -16,7 +16,7 @@ use Rattle.p2p_log.specs.Lines.{name_of, stays, stands_in, live, line, named}
 use Rattle.p2p_log.specs.Apart.{AreApart}
 use Rattle.p2p_log_rules.specs.declared.row.Row.{Row}
 use Rattle.p2p_log_rules.specs.Frames.{frame_of}
-use Rattle.p2p_log_rules.specs.Facts.{channels, capacity_in, is_up}
+use Rattle.p2p_log_rules.specs.Facts.{channels, capacity_in, is_up, is_stopped}
 use Rattle.p2p_log_rules.specs.Effect.{entry_of, mailbox_size_at, router_capacity, start_row, sent_row, route_oldest}
 use Rattle.p2p_router.specs.Messenger.{is_unbound}
 use Rattle.p2p_net_router.specs.Batches.{batch_of, all_of, AreKept}
@@ -33,14 +33,14 @@ use Rattle.p2p_log_rules.specs.Connections.{is_ended}
 -- a channel wants the lists of peers
 pub record Subscribes (channel : ℕ) (old new : Router) : Type 0 where
   pub rest : new ≡ record old { messenger = new.messenger; channels = new.channels; subscriptions = new.subscriptions }
-  pub stands : (configs : List Config) (log : List Entry) (e : Entry) → StandsFor configs log old → IsTrue (is_unbound old.messenger.binding)
+  pub stands : (configs : List Config) (log : List Entry) (e : Entry) → StandsFor configs log old → is_stopped log old.number ≡ false → IsTrue (is_unbound old.messenger.binding)
       → IsRegistration e old.number channel → capacity_in (channels configs log old.number) channel ≡ None → StandsFor configs (log ++ e ∷ []) new
 
 -- it starts, with a mailbox of so many places
 pub record Starts (entry places : ℕ) (old new : Router) (r : Row) : Type 0 where
   pub rest : new ≡ record old { messenger = new.messenger; names = new.names }
-  pub row : (configs : List Config) (log : List Entry) → StandsFor configs log old → r ≡ start_row configs log old.number
-  pub stands : (configs : List Config) (log : List Entry) (event : Event) → StandsFor configs log old → length log ≡ entry
+  pub row : (configs : List Config) (log : List Entry) → StandsFor configs log old → is_stopped log old.number ≡ false → r ≡ start_row configs log old.number
+  pub stands : (configs : List Config) (log : List Entry) (event : Event) → StandsFor configs log old → is_stopped log old.number ≡ false → length log ≡ entry
       → event.act ≡ act.Start old.number → places ≡ router_capacity configs log old.number → StandsFor configs (log ++ entry_of event r ∷ []) new
 
 -- this connection, with this key, is told of, as the put of this place

@@ -7,6 +7,7 @@ use Rattle.p2p_base.specs.declared.key.Key.{Key}
 use Rattle.p2p_log.specs.declared.config.Config.{Config}
 use Rattle.p2p_log.specs.declared.entry.Entry.{Entry}
 use Rattle.p2p_log_rules.specs.Connections.{is_begun, live_connection}
+use Rattle.p2p_log_rules.specs.Facts.{is_stopped}
 use Rattle.p2p_log_rules.specs.Spawning.{Spawned}
 use Rattle.p2p_log_rules.specs.Valid.{config_fault}
 use Rattle.p2p_net_router.specs.Stands.{StandsFor}
@@ -53,9 +54,10 @@ pub record OwnStands (configs : List Config) (n : ℕ) (x : Node) : Type 0 where
   pub retained : x.retained ≡ x.config.max_peers_per_set * x.config.tracked_peer_sets
   pub works : x.failed ≡ false
 
--- each part of a node stands for the log
+-- a node has not stopped, and each part of it stands for the log
 pub record NodeStands (configs : List Config) (log : List Entry) (n : ℕ) (x : Node) : Type 0 where
   pub own : OwnStands configs n x
+  pub lasts : is_stopped log n ≡ false
   pub each : (p : Part) → PartStands p configs log n x
 
 -- each node of valid configurations stands for the log, and so do the links: every queue holds its line

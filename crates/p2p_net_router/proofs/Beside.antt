@@ -1,9 +1,8 @@
--- A router stands for the log with one more entry that is none of its node's steps, registrations and starts.
-use Rattle.std.proofs.Common.{◌≡◌, ℕ, suc, ◌+◌, Bool, true, false, cond, List, [], ◌∷◌, ◌++◌, length, refl, ap, sym, subst, ◌∙◌, arith, append-nil}
-use Rattle.std.specs.Prelude.{filter, flat_map, map, ◌||◌}
+-- A router stands for the log with one more entry that is none of its node's steps and registrations, and neither starts nor stops it.
+use Rattle.std.proofs.Common.{◌≡◌, ℕ, suc, ◌+◌, true, false, cond, List, [], ◌∷◌, ◌++◌, length, refl, ap, sym, subst, ◌∙◌, arith, append-nil}
+use Rattle.std.specs.Prelude.{filter, flat_map, map}
 use Rattle.std.specs.BTreeMap.{BTreeMap}
 use Rattle.std.proofs.lemmas.List.Elements.{filter-append}
-use Rattle.p2p_log_rules.proofs.Bools.{or_false}
 use Rattle.p2p_base.specs.declared.key.Key.{Key}
 use Rattle.p2p_router.specs.Routes.{Routes}
 use Rattle.p2p_router.specs.Messenger.{Desk, is_bound}
@@ -17,9 +16,9 @@ use Rattle.p2p_log.specs.declared.queue.Queue.TheVariants as queue
 use Rattle.p2p_log.specs.QueueCode.{same_queue}
 use Rattle.p2p_log.specs.Lines.{name_of, ended_item, stays, placed, live, stands_in}
 use Rattle.p2p_log_rules.specs.Connections.{is_ended}
-use Rattle.p2p_log_rules.specs.Facts.{starts, is_up, registers_at, channels, sum_capacities}
+use Rattle.p2p_log_rules.specs.Facts.{turns, registers_at, channels, sum_capacities}
 use Rattle.p2p_log_rules.specs.Effect.{mailbox_size_at, router_capacity}
-use Rattle.p2p_log_rules.proofs.Channels.{channels-append, is_up-append}
+use Rattle.p2p_log_rules.proofs.Channels.{channels-kept, is_up-kept}
 use Rattle.p2p_log.proofs.Lines.{live-append, filter_stays-nil}
 use Rattle.p2p_log.specs.Apart.{AreApart}
 use Rattle.p2p_log.proofs.Names.{filter_stays-first}
@@ -47,21 +46,19 @@ holds_same size r items more h same = record {
   each = λ q own. h.each q own ∙ ap (map bare_item) (sym (same q own));
 }
 
--- the router moved what the entry says, which is none of its steps, registrations and starts, and has these items
+-- the router moved what the entry says, which is none of its steps and registrations and neither starts nor stops it, and has these items
 pub moved_over :
     (configs : List Config) (log : List Entry) (e : Entry) (r : Router) (desk : Desk Key) (actor : Routes Key) (peers : BTreeMap ℕ Key) (names : Board Name) (items more : List Envelope)
-    → StandsOver configs log r items → RoutesNothing log e r.number → registers_at configs r.number e.event.act ≡ [] → starts r.number e.event.act ≡ false
+    → StandsOver configs log r items → RoutesNothing log e r.number → registers_at configs r.number e.event.act ≡ [] → turns r.number e.event.act ≡ false
     → routes_in actor.links ≡ routes_in r.actor.links → actor.subscriptions ≡ r.actor.subscriptions → actor.failed ≡ r.actor.failed
     → is_bound desk.binding ≡ is_bound r.messenger.binding → ((k : ℕ) → HasPlaces k r.messenger.binding → HasPlaces k desk.binding)
     → AreEnded (is_ended (log ++ e ∷ []) r.number) peers actor.links
     → Holds (mailbox_size_at configs r.number) (moved_to r desk actor peers names) more
     → StandsOver configs (log ++ e ∷ []) (moved_to r desk actor peers names) more
-moved_over configs log e r desk actor peers names items more s no_step no_channel no_start links subs works bound places ended h =
+moved_over configs log e r desk actor peers names items more s no_step no_channel no_turn links subs works bound places ended h =
     let n = r.number in
-    let same : channels configs (log ++ e ∷ []) n ≡ channels configs log n =
-    channels-append configs log e n ∙ (ap (λ l. channels configs log n ++ l) no_channel ∙ append-nil (channels configs log n))
-    in
-    let up : is_up (log ++ e ∷ []) n ≡ is_up log n = is_up-append log e n ∙ (ap (λ x. is_up log n || x) no_start ∙ or_false (is_up log n)) in
+    let same = channels-kept configs log e n no_channel in
+    let up = is_up-kept log e n no_turn in
     record {
       holds = h;
       routes_are = links ∙ (s.routes_are ∙ sym no_step.routes_stay);
@@ -84,7 +81,7 @@ pub stands_moved :
     → Holds (mailbox_size_at configs r.number) (moved_to r desk actor peers names) (live (log ++ e ∷ []))
     → StandsFor configs (log ++ e ∷ []) (moved_to r desk actor peers names)
 stands_moved configs log e r desk actor peers names items s b links subs works bound places ended h =
-    moved_over configs log e r desk actor peers names items (live (log ++ e ∷ [])) s b.no_step b.no_channel b.no_start links subs works bound places
+    moved_over configs log e r desk actor peers names items (live (log ++ e ∷ [])) s b.no_step b.no_channel b.no_turn links subs works bound places
     (ended_beside log e r.number peers actor.links b.no_end ended) h
 
 -- what stands in the router's queues is what stood there

@@ -1,9 +1,8 @@
 -- The router after a step that took a message stands for the log with one more entry.
-use Rattle.std.proofs.Common.{◌≡◌, ℕ, ◌+◌, Bool, true, false, List, [], ◌∷◌, ◌++◌, length, refl, ap, sym, subst, ◌∙◌, append-nil}
-use Rattle.std.specs.Prelude.{filter, flat_map, map, ◌||◌}
+use Rattle.std.proofs.Common.{◌≡◌, ℕ, ◌+◌, true, false, List, [], ◌∷◌, ◌++◌, length, refl, ap, sym, subst, ◌∙◌, append-nil}
+use Rattle.std.specs.Prelude.{filter, flat_map, map}
 use Rattle.std.specs.List.{AllByRecursion}
 use Rattle.std.proofs.lemmas.Bool.{false≢true}
-use Rattle.p2p_log_rules.proofs.Bools.{or_false}
 use Rattle.p2p_base.specs.declared.key.Key.{Key}
 use Rattle.p2p_base.specs.Queue.{without_oldest}
 use Rattle.p2p_router.specs.Routes.{Routes}
@@ -22,10 +21,10 @@ use Rattle.p2p_log.specs.declared.event.Act.TheVariants as act
 use Rattle.p2p_log_rules.specs.declared.row.Row.{Row}
 use Rattle.p2p_log.specs.Lines.{name_of, stays, placed, live, line, stands_in}
 use Rattle.p2p_log_rules.specs.Connections.{is_ended}
-use Rattle.p2p_log_rules.specs.Facts.{starts, is_up, registers_at, channels, item_named, taken, wants_lists, subscribers, with_route, routes, sum_capacities}
+use Rattle.p2p_log_rules.specs.Facts.{turns, is_up, registers_at, channels, item_named, taken, wants_lists, subscribers, with_route, routes, sum_capacities}
 use Rattle.p2p_log_rules.specs.Routed.{routed_tells}
 use Rattle.p2p_log_rules.specs.Effect.{only, entry_of, mailbox_size_at, router_capacity, route_row, route_oldest}
-use Rattle.p2p_log_rules.proofs.Channels.{channels-append, is_up-append}
+use Rattle.p2p_log_rules.proofs.Channels.{channels-kept, is_up-kept}
 use Rattle.p2p_log_rules.proofs.Routing.{subscribers-routed, routes-routed}
 use Rattle.p2p_log.proofs.Lines.{live-append, filter_stays-nil}
 use Rattle.p2p_log_rules.proofs.Recorded.{item_named-first}
@@ -87,11 +86,10 @@ unfolding taken
 taken-none log e t = ap (flat_map (item_named log)) t
 
 channels_kept : (configs : List Config) (log : List Entry) (e : Entry) (n : ℕ) → e.event.act ≡ act.Router n → channels configs (log ++ e ∷ []) n ≡ channels configs log n
-channels_kept configs log e n is =
-    channels-append configs log e n ∙ (ap (λ a. channels configs log n ++ registers_at configs n a) is ∙ append-nil (channels configs log n))
+channels_kept configs log e n is = channels-kept configs log e n (ap (registers_at configs n) is)
 
 up_kept : (log : List Entry) (e : Entry) (n : ℕ) → e.event.act ≡ act.Router n → is_up (log ++ e ∷ []) n ≡ is_up log n
-up_kept log e n is = is_up-append log e n ∙ (ap (λ a. is_up log n || starts n a) is ∙ or_false (is_up log n))
+up_kept log e n is = is_up-kept log e n (ap (turns n) is)
 
 places_taken : (k : ℕ) (b : Binding Key) → HasPlaces k b → HasPlaces k (in_mailbox without_oldest b)
 places_taken k Unbound h = h

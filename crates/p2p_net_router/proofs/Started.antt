@@ -1,6 +1,6 @@
 -- A router that got its mailbox: the subscriptions that waited are put there.
-use Rattle.std.proofs.Common.{◌≡◌, ℕ, Bool, true, false, cond, List, [], ◌∷◌, ◌++◌, length, refl, ap, sym, subst, ◌∙◌, arith, append-nil}
-use Rattle.std.specs.Prelude.{filter, flat_map, map, ◌==◌, ◌||◌}
+use Rattle.std.proofs.Common.{◌≡◌, ℕ, true, false, cond, List, [], ◌∷◌, ◌++◌, length, refl, ap, sym, subst, ◌∙◌, arith, append-nil}
+use Rattle.std.specs.Prelude.{filter, flat_map, map, ◌==◌}
 use Rattle.std.specs.List.{AllByRecursion}
 use Rattle.std.proofs.lemmas.Bool.Decides.{nat_tests}
 use Rattle.std.proofs.lemmas.Bool.{false≢true}
@@ -26,9 +26,10 @@ use Rattle.p2p_log.specs.declared.item.Envelope.{Envelope}
 use Rattle.p2p_log_rules.specs.declared.row.Row.{Row}
 use Rattle.p2p_log.specs.QueueCode.{same_queue}
 use Rattle.p2p_log.specs.Lines.{placed, live, stands_in}
-use Rattle.p2p_log_rules.specs.Facts.{channels, is_up}
+use Rattle.p2p_log_rules.specs.Facts.{channels, is_stopped}
 use Rattle.p2p_log_rules.specs.Effect.{only, entry_of, goes_to, start_row, mailbox_size_at, router_capacity}
 use Rattle.p2p_log.proofs.Lines.{filter_stays-nil}
+use Rattle.p2p_log_rules.proofs.Channels.{is_up-starts}
 use Rattle.p2p_net_queues.specs.declared.board.Board.{Board}
 use Rattle.p2p_net_router.specs.Names.{Agrees, bare_item}
 use Rattle.p2p_net_router.specs.Building.{NamesBuild, subscription}
@@ -51,13 +52,14 @@ map-channels n [] = refl
 map-channels n (c ∷ cs) = ap (λ l. (queue.Router n, item.Subscribe c.0) ∷ l) (map-channels n cs)
 
 pub started_row :
-    (configs : List Config) (log : List Entry) (r : Router) (cs : List ℕ) (before row : Row) → StandsFor configs log r → before ≡ only reply.Ok
+    (configs : List Config) (log : List Entry) (r : Router) (cs : List ℕ) (before row : Row) → StandsFor configs log r → is_stopped log r.number ≡ false → before ≡ only reply.Ok
     → row ≡ record before { puts = before.puts ++ map (subscription r.number) cs } → cs ≡ r.channels.items → row ≡ start_row configs log r.number
-started_row configs log r cs before row s e f g =
+started_row configs log r cs before row s runs e f g =
     f
     ∙ (ap (λ (x : Row). record x { puts = x.puts ++ map (subscription r.number) cs }) e
     ∙ (ap (λ l. record (only reply.Ok) { puts = map (subscription r.number) l }) (g ∙ s.registered)
-    ∙ ap (λ l. record (only reply.Ok) { puts = l }) (map-channels r.number (channels configs log r.number))))
+    ∙ (ap (λ l. record (only reply.Ok) { puts = l }) (map-channels r.number (channels configs log r.number))
+    ∙ ap (λ b. cond b (only reply.Gone) (record (only reply.Ok) { puts = map (λ (c : ℕ × ℕ). (queue.Router r.number, item.Subscribe c.0)) (channels configs log r.number) })) (sym runs))))
 
 -- ---- the mailbox
 
@@ -154,21 +156,14 @@ is_none Unbound h = refl
 is_none (Bound q) h = absurd (false≢true h)
 is_none Closed h = absurd (false≢true h)
 
-or-here : (b : Bool) → true ≡ (b || true)
-or-here true = refl
-or-here false = refl
-
-same_node : (n : ℕ) → (n == n) ≡ true
-same_node n = grind (arith, nat_tests)
-
 pub started_stands :
     (configs : List Config) (log : List Entry) (entry places : ℕ) (event : Event) (r : Router) (desk : Desk Key) (names : Board Name) (cs : List ℕ) (before row : Row)
-    → StandsFor configs log r → length log ≡ entry → event.act ≡ act.Start r.number → places ≡ router_capacity configs log r.number
+    → StandsFor configs log r → is_stopped log r.number ≡ false → length log ≡ entry → event.act ≡ act.Start r.number → places ≡ router_capacity configs log r.number
     → is_unbound r.messenger.binding ≡ true → desk ≡ bound_to r.messenger (empty_queue places)
     → before ≡ only reply.Ok → row ≡ record before { puts = before.puts ++ map (subscription r.number) cs } → cs ≡ r.channels.items
     → ((n : ℕ) (items : List Envelope) → NamesBuild n r.names items entry before → NamesBuild n names items entry row)
     → StandsFor configs (log ++ entry_of event row ∷ []) (rebound r desk names)
-started_stands configs log entry places event r desk names cs before row s at is room unbound bound e f g named =
+started_stands configs log entry places event r desk names cs before row s runs at is room unbound bound e f g named =
     let n = r.number in
     let none = is_none r.messenger.binding unbound in
     let now : row ≡ record (only reply.Ok) { puts = map (subscription n) r.channels.items } =
@@ -190,4 +185,4 @@ started_stands configs log entry places event r desk names cs before row s at is
     subst (λ (d : Desk Key). StandsFor configs (log ++ entry_of event row ∷ []) (rebound r d names)) (sym bound)
     (stands_kept configs log entry event (act.Start n) r (bound_to r.messenger (empty_queue places)) names row s at is refl refl (λ conn. refl)
     (subst (Holds size (rebound r (bound_to r.messenger (empty_queue places)) names)) (sym whole) holds)
-    (or-here (is_up log n) ∙ ap (λ b. is_up log n || b) (sym (same_node n))) room)
+    (sym (is_up-starts log (entry_of event row) n is runs)) room)

@@ -20,10 +20,10 @@ use Rattle.p2p_log.specs.declared.queue.Queue.{Queue}
 use Rattle.p2p_log.specs.declared.queue.Queue.TheVariants as queue
 use Rattle.p2p_log.specs.declared.item.Item.TheVariants as item
 use Rattle.p2p_log.specs.Lines.{live_from, live, ended_item, stays, placed}
-use Rattle.p2p_log_rules.specs.Facts.{starts, is_up, capacity_for, with_capacity, registers_at, rates, channels, state_from, capacity_in, subscribers, routes}
+use Rattle.p2p_log_rules.specs.Facts.{turns, is_stopped, capacity_for, with_capacity, registers_at, rates, channels, state_from, capacity_in, subscribers, routes}
 use Rattle.p2p_log_rules.specs.Effect.{mailbox_size_at, router_capacity}
 use Rattle.p2p_log_rules.specs.Told.{told}
-use Rattle.p2p_log_rules.proofs.Channels.{channels-append, is_up-append}
+use Rattle.p2p_log_rules.proofs.Channels.{channels-append, is_up-kept, is_up-none}
 use Rattle.p2p_log_rules.proofs.Families.{kinds_of, are_apart}
 use Rattle.p2p_log_rules.proofs.Routing.{route_kinds}
 use Rattle.p2p_log.proofs.Lines.{live-append, filter_stays-nil}
@@ -73,7 +73,7 @@ sound_fresh size r h = record {
 }
 
 pub fresh_stands : (configs : List Config) (r : Router) → IsFresh r → StandsFor configs [] r
-unfolding live_from is_up rates channels told state_from subscribers routes
+unfolding live_from rates channels told state_from subscribers routes
 fresh_stands configs r h = record {
   holds = record {
     sound = sound_fresh (mailbox_size_at configs r.number) r h;
@@ -83,7 +83,7 @@ fresh_stands configs r h = record {
   routes_are = ap (λ (x : Routes Key). routes_in x.links) h.actor;
   told = ap (λ (x : Routes Key). map (channel_of r.channels.items) x.subscriptions) h.actor;
   registered = h.channels;
-  bound = ap (λ (d : Desk Key). is_bound d.binding) h.messenger;
+  bound = ap (λ (d : Desk Key). is_bound d.binding) h.messenger ∙ sym (is_up-none r.number);
   places = subst (λ (d : Desk Key). HasPlaces (router_capacity configs [] r.number) d.binding) (sym h.messenger) tt;
   ended = record {
     relays = λ k l at. absurd (let e : None ≡ Some l = sym (ap (λ (x : Routes Key). link_of key_cmp x.links k) h.actor) ∙ at in cc);
@@ -236,15 +236,11 @@ items_same size r new d s h _ = refl
 same_number : (n : ℕ) → (n == n) ≡ true
 same_number n = grind (arith, nat_tests)
 
-or-false : (b : Bool) → b ≡ (b || false)
-or-false true = refl
-or-false false = refl
-
 pub subscribed_stands :
     (configs : List Config) (log : List Entry) (e : Entry) (r new : Router) (d : ℕ)
-    → StandsFor configs log r → IsRegistration e r.number d → IsSubscribed r new d → capacity_in (channels configs log r.number) d ≡ None
+    → StandsFor configs log r → is_stopped log r.number ≡ false → IsRegistration e r.number d → IsSubscribed r new d → capacity_in (channels configs log r.number) d ≡ None
     → StandsFor configs (log ++ e ∷ []) new
-subscribed_stands configs log e r new d s g h absent =
+subscribed_stands configs log e r new d s runs g h absent =
     let n = r.number in
     let size = mailbox_size_at configs n in
     let whole : Router = record r { messenger = new.messenger; channels = new.channels; subscriptions = new.subscriptions } in
@@ -260,7 +256,7 @@ subscribed_stands configs log e r new d s g h absent =
     ap (registers_at configs n) g.is ∙ ap (λ b. map (with_capacity configs n) (cond b ((d, g.rate) ∷ []) [])) (same_number n)
     in
     let channels_now : channels configs (log ++ e ∷ []) n ≡ channels configs log n ++ (d, capacity_for (slice_get configs n) g.rate) ∷ [] =
-    channels-append configs log e n ∙ ap (λ l. channels configs log n ++ l) here
+    channels-append configs log e n runs ∙ ap (λ l. channels configs log n ++ l) here
     in
     let early = s.holds.sound.early (ap is_bound h.unbound) in
     subst (StandsFor configs (log ++ e ∷ [])) (sym h.rest)
@@ -279,9 +275,7 @@ subscribed_stands configs log e r new d s g h absent =
           ∙ (sym (map-append (λ (c : ℕ × ℕ). c.0) (channels configs log n) ((d, capacity_for (slice_get configs n) g.rate) ∷ [])) ∙ ap (map (λ (c : ℕ × ℕ). c.0)) (sym channels_now)));
       bound = ap (λ (m : Desk Key). is_bound m.binding) h.desk
           ∙ (sym (ap is_bound h.unbound)
-          ∙ (s.bound
-          ∙ (or-false (is_up log n)
-          ∙ (ap (λ x. is_up log n || starts n x) (sym g.is) ∙ sym (is_up-append log e n)))));
+          ∙ (s.bound ∙ sym (is_up-kept log e n (ap (turns n) g.is))));
       places = subst (λ (m : Desk Key). HasPlaces (router_capacity configs (log ++ e ∷ []) n) m.binding) (sym h.desk) tt;
       ended = ended_beside log e n r.peers r.actor.links (λ conn. ends_untold log e n conn (act.Register d n g.rate) g.is refl) s.ended;
       works = s.works;

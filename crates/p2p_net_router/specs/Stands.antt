@@ -18,7 +18,7 @@ use Rattle.p2p_log.specs.declared.event.Rate.{Rate}
 use Rattle.p2p_log.specs.declared.event.Act.TheVariants as act
 use Rattle.p2p_log.specs.Lines.{live}
 use Rattle.p2p_log_rules.specs.Connections.{ends_connection, is_ended}
-use Rattle.p2p_log_rules.specs.Facts.{channels, is_up, registers_at, starts, routes, subscribers}
+use Rattle.p2p_log_rules.specs.Facts.{channels, is_up, registers_at, turns, routes, subscribers}
 use Rattle.p2p_log_rules.specs.Effect.{mailbox_size_at, router_capacity}
 use Rattle.p2p_net_router.specs.Ends.{AreEnded}
 use Rattle.p2p_net_router.specs.Holds.{Holds, routes_in, channels_told}
@@ -43,11 +43,11 @@ pub record RoutesNothing (log : List Entry) (e : Entry) (n : ℕ) : Type 0 where
   pub routes_stay : routes (log ++ e ∷ []) n ≡ routes log n
   pub subscribers_stay : subscribers (log ++ e ∷ []) n ≡ subscribers log n
 
--- the entry is none of the steps of a node's router, of its registrations and of its starts, and ends none of its connections
+-- the entry is none of the steps of a node's router and of its registrations, neither starts nor stops it, and ends none of its connections
 pub record IsBeside (configs : List Config) (log : List Entry) (e : Entry) (n : ℕ) : Type 0 where
   pub no_step : RoutesNothing log e n
   pub no_channel : registers_at configs n e.event.act ≡ []
-  pub no_start : starts n e.event.act ≡ false
+  pub no_turn : turns n e.event.act ≡ false
   pub no_end : (conn : ℕ) → ends_connection n conn log e ≡ false
 
 -- none of these puts goes to the queue
@@ -64,12 +64,12 @@ pub record IsReadied (e : Entry) (n place conn : ℕ) (key : Key) : Type 0 where
   pub long : length before ≡ place
   pub away : (q : Queue) → is_routers n q ≡ true → AreAway q before × AreAway q after
 
--- the entry ends this connection of a node and no other, and is none of its router's steps, of its registrations and of its starts:
+-- the entry ends this connection of a node and no other, is none of its router's steps and of its registrations, and neither starts nor stops it:
 -- it puts first that the key is released, and nothing else for the router
 pub record IsEnding (configs : List Config) (log : List Entry) (e : Entry) (n conn : ℕ) (key : Key) : Type 0 where
   pub no_step : RoutesNothing log e n
   pub no_channel : registers_at configs n e.event.act ≡ []
-  pub no_start : starts n e.event.act ≡ false
+  pub no_turn : turns n e.event.act ≡ false
   pub ends : (c : ℕ) → ends_connection n c log e ≡ (c == conn)
   pub rest : List (Queue × Item)
   pub puts : e.puts ≡ (queue.Router n, item.Release key) ∷ rest

@@ -4,7 +4,7 @@ ghost use Rattle.std.specs.Ordering.{nat_cmp, is_eq};
 ghost use Rattle.std.specs.BTreeMap.{get};
 ghost use Rattle.p2p_log_rules.specs.Frames.{frame_of};
 ghost use Rattle.p2p_log_rules.specs.Connections.{is_ended};
-ghost use Rattle.p2p_log_rules.specs.Facts.{is_up};
+ghost use Rattle.p2p_log_rules.specs.Facts.{is_up, is_stopped};
 ghost use Rattle.p2p_log.specs.Lines.{stands_in, stays};
 ghost use Rattle.p2p_log_rules.specs.Effect.{only as only_reply, entry_of, mailbox_size_at, copies_end, relay_queue, router_capacity, sent_row, start_row};
 ghost use Rattle.p2p_log.specs.Apart.{AreApart};
@@ -197,8 +197,8 @@ impl Router {
     pub fn start(&mut self, turn: Turn, places: usize) -> Result<Row, AllocError>
         requires places { 1 ≤ places }
         requires unbound { IsTrue (is_unbound self.old.messenger.binding) }
-        ensures row { IfOk result (λ row. (configs : _) (log : _) → StandsFor configs log self.old → row ≡ start_row configs log self.old.number) }
-        ensures stands { IfOk result (λ row. (configs : _) (log : _) (event : _) → StandsFor configs log self.old → length log ≡ turn.entry
+        ensures row { IfOk result (λ row. (configs : _) (log : _) → StandsFor configs log self.old → is_stopped log self.old.number ≡ false → row ≡ start_row configs log self.old.number) }
+        ensures stands { IfOk result (λ row. (configs : _) (log : _) (event : _) → StandsFor configs log self.old → is_stopped log self.old.number ≡ false → length log ≡ turn.entry
             → event.act ≡ Act.Start self.old.number → places ≡ router_capacity configs log self.old.number
             → StandsFor configs (log ++ entry_of event row ∷ []) self.new) }
         ensures bound { OnOk result (IsTrue (is_bound self.new.messenger.binding)) }

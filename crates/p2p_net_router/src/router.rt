@@ -3,7 +3,7 @@ ghost use Rattle.std.specs.Prelude.{◌≡◌, ◌==◌, ◌≤◌, ◌<◌, ◌
 ghost use Rattle.std.specs.Ordering.{nat_cmp, is_eq};
 ghost use Rattle.std.specs.BTreeMap.{get};
 ghost use Rattle.p2p_log_rules.specs.Frames.{frame_of};
-ghost use Rattle.p2p_log_rules.specs.Facts.{channels, capacity_in};
+ghost use Rattle.p2p_log_rules.specs.Facts.{channels, capacity_in, is_stopped};
 ghost use Rattle.p2p_log.specs.Lines.{line, live};
 ghost use Rattle.p2p_log_rules.specs.Effect.{entry_of, relay_queue, route_oldest, router_capacity, sent_row, start_row};
 ghost use Rattle.p2p_log.specs.Apart.{AreApart};
@@ -97,7 +97,7 @@ impl Router {
         ensures channels { OnOk result (self.new.channels.items ≡ self.old.channels.items ++ channel ∷ []) }
         ensures subscriptions { OnOk result ((c : ℕ) → get nat_cmp self.new.subscriptions c ≡ (if is_eq (nat_cmp channel c) then Some (length self.old.messenger.lists) else get nat_cmp self.old.subscriptions c)) }
         ensures rest { OnOk result (self.new ≡ record self.old { messenger = self.new.messenger; channels = self.new.channels; subscriptions = self.new.subscriptions }) }
-        ensures stands { OnOk result ((configs : _) (log : _) (e : _) → StandsFor configs log self.old → IsTrue (is_unbound self.old.messenger.binding)
+        ensures stands { OnOk result ((configs : _) (log : _) (e : _) → StandsFor configs log self.old → is_stopped log self.old.number ≡ false → IsTrue (is_unbound self.old.messenger.binding)
             → IsRegistration e self.old.number channel → capacity_in (channels configs log self.old.number) channel ≡ None → StandsFor configs (log ++ e ∷ []) self.new) }
     {
         self.channels.push(channel)?;

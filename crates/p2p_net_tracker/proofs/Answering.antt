@@ -21,11 +21,12 @@ use Rattle.p2p_log.specs.Lines.{ended_item, goes, line, placed, stands_in}
 use Rattle.p2p_log.proofs.QueueNames.{queue_from_same}
 use Rattle.p2p_log_rules.specs.declared.row.Row.{Row}
 use Rattle.p2p_log_rules.specs.Effect.{entry_of}
+use Rattle.p2p_log_rules.specs.Facts.{is_stopped}
 use Rattle.p2p_log_rules.specs.Rows.{only}
 use Rattle.p2p_log_rules.proofs.Families.{kinds_of, are_apart}
 use Rattle.p2p_log_rules.proofs.Handshakes.{handshake_kinds, handshakes_of-apart}
 use Rattle.p2p_log_rules.specs.Tracking.{asked_by}
-use Rattle.p2p_log_rules.specs.TrackerRows.{was_answered, oldest_row, answer_at, answer_by, answer_row, next_by, next_row}
+use Rattle.p2p_log_rules.specs.TrackerRows.{was_answered, oldest_row, none_next, answer_at, answer_by, answer_row, next_by, next_row}
 use Rattle.p2p_net_queues.specs.declared.board.Board.{Board}
 use Rattle.p2p_net_queues.specs.Board.{held}
 use Rattle.p2p_net_queues.specs.Tables as table
@@ -36,7 +37,7 @@ use Rattle.p2p_net_tracker.specs.declared.tracker.Tracker.{Tracker}
 use Rattle.p2p_net_tracker.specs.Reading.{read_first, Pops, ReadsFrom, OnlyAnswers, noted, ReadsAnswerBy, ReadsAnswer, AnswersBy, Answers, ContinuesBy, Continues}
 use Rattle.p2p_net_tracker.specs.Stands.{asks_of, asks_at, AreFresh, is_told, TrackerStands}
 use Rattle.p2p_net_tracker.proofs.Changes.{tracker_frame, TellsAsker, tracker_read}
-use Rattle.p2p_net_tracker.proofs.Ended.{steps_half, no_end-act}
+use Rattle.p2p_net_tracker.proofs.Ended.{may_end_here, no_end-act}
 use Rattle.p2p_net_tracker.proofs.Facts.{fresh-longer, was_answered-kept}
 use Rattle.p2p_log_rules.proofs.Steps.{steps_tracker}
 use Rattle.p2p_log_rules.proofs.Answers.{takes_answer, was_answered-append}
@@ -82,7 +83,7 @@ with_board configs log n t b s holds = record {
 }
 
 module _ (configs : List Config) (log : List Entry) (at seed n : ℕ) (a : Act) (t u : Tracker) (r : Row) (s : TrackerStands configs log n t) (no_step : steps_tracker n a ≡ false) (no_question : asks_of n a ≡ None)
-    (no_half : steps_half n a ≡ false) (no_admission : are_apart (kinds_of a) handshake_kinds ≡ true) where
+    (no_ending : may_end_here n a ≡ false) (no_admission : are_apart (kinds_of a) handshake_kinds ≡ true) where
   abbrev e : Entry
   e = entry_of (record { at = at; seed = seed; act = a }) r
 
@@ -99,7 +100,7 @@ module _ (configs : List Config) (log : List Entry) (at seed n : ℕ) (a : Act) 
         no_question = no_question;
         no_answer = λ d asked. ap (λ (k : Row). takes_answer d a k.reply) is ∙ none d;
         no_late_answer = λ d past. ap (λ (k : Row). takes_answer d a k.reply) is ∙ none d;
-        no_end = no_end-act n log e no_half;
+        no_end = no_end-act n log e no_ending;
         handshakes = handshakes_of-apart log e n no_admission;
         mailbox = left (queue.Tracker n);
         told = λ q own. left q;
@@ -120,7 +121,7 @@ module _ (configs : List Config) (log : List Entry) (at seed n : ℕ) (a : Act) 
   read_stands q [] answered empty asker is none pops same kept noted_all fresh =
       still_stands reply.Pending is none (same ∙ ap (λ m. record t { told = u.told; answered = m }) (kept refl)) (popped_none q pops asker.own empty)
   read_stands q (x ∷ rest) answered first asker is none pops same kept noted_all fresh =
-      tracker_read configs log e n t u q x rest answered s no_step no_question (no_end-act n log e no_half) (handshakes_of-apart log e n no_admission)
+      tracker_read configs log e n t u q x rest answered s no_step no_question (no_end-act n log e no_ending) (handshakes_of-apart log e n no_admission)
       (record { first = first; gone = ap (λ (k : Row). k.takes ++ flat_map ended_item k.ends) is }) (ap (λ (k : Row). k.puts) is) asker same noted_all fresh pops
 
 first_row : (held_there l : List Envelope) → held_there ≡ l → read_first (slice_get held_there 0) ≡ oldest_row reply.Pending l
@@ -180,9 +181,9 @@ note_other l true e d h = lookup-insert_entry e d true l ∙ ap (λ b. cond b (S
 noted_empty : (l : List Envelope) (row : Row) (e : ℕ) (before : List (ℕ × Bool)) → row ≡ oldest_row reply.Pending l → l ≡ [] → noted (is_peer_set row.reply) e before ≡ before
 noted_empty l row e before is none = ap (λ (k : Row). noted (is_peer_set k.reply) e before) (is ∙ ap (oldest_row reply.Pending) none)
 
-pub tracker_answers : (configs : List Config) (log : List Entry) (at seed n e index : ℕ) (t u : Tracker) (r : Row) → TrackerStands configs log n t → asked_by log e ≡ Some (act.Ask (ask.PeerSet index) n) → Answers n e t u r
+pub tracker_answers : (configs : List Config) (log : List Entry) (at seed n e index : ℕ) (t u : Tracker) (r : Row) → TrackerStands configs log n t → is_stopped log n ≡ false → asked_by log e ≡ Some (act.Ask (ask.PeerSet index) n) → Answers n e t u r
     → (r ≡ answer_row log e) × TrackerStands configs (log ++ entry_of (record { at = at; seed = seed; act = act.Answer e }) r ∷ []) n u
-tracker_answers configs log at seed n e index t u r s asked h =
+tracker_answers configs log at seed n e index t u r s lasts asked h =
     by_taken (is_some (table.at t.answered e)) refl (subst (λ o. AnswersBy o n e t u r) kind h)
   where
     here : asks_at log n e ≡ Some question.PeerSet
@@ -195,7 +196,9 @@ tracker_answers configs log at seed n e index t u r s asked h =
     row_is = ap (answer_by log e) asked
 
     at_is : (b : Bool) → is_some (table.at t.answered e) ≡ b → answer_at log n e ≡ cond b (only reply.Gone) (oldest_row reply.Pending (line log (queue.Answer n e)))
-    at_is b is = ap (λ c. cond c (only reply.Gone) (oldest_row reply.Pending (line log (queue.Answer n e)))) (sym (s.answered e here) ∙ is)
+    at_is b is =
+        ap (λ c. cond c (only reply.Gone) (oldest_row (cond (is_stopped log n) (reply.PeerSet None) reply.Pending) (line log (queue.Answer n e)))) (sym (s.answered e here) ∙ is)
+        ∙ ap (λ c. cond b (only reply.Gone) (oldest_row (cond c (reply.PeerSet None) reply.Pending) (line log (queue.Answer n e)))) lasts
 
     by_taken : (b : Bool) → is_some (table.at t.answered e) ≡ b → ReadsAnswer n e t u r
         → (r ≡ answer_row log e) × TrackerStands configs (log ++ entry_of (record { at = at; seed = seed; act = act.Answer e }) r ∷ []) n u
@@ -227,13 +230,13 @@ tracker_answers configs log at seed n e index t u r s asked h =
 
 -- ---- what comes next for a subscription
 
-module _ (configs : List Config) (log : List Entry) (at seed n e : ℕ) (t u : Tracker) (r : Row) (s : TrackerStands configs log n t) where
+module _ (configs : List Config) (log : List Entry) (at seed n e : ℕ) (t u : Tracker) (r : Row) (s : TrackerStands configs log n t) (lasts : is_stopped log n ≡ false) where
   reads_on : (q : Queue) → TellsAsker n q → ReadsFrom q t u r
-      → (r ≡ oldest_row reply.Pending (line log q)) × TrackerStands configs (log ++ entry_of (record { at = at; seed = seed; act = act.Next e }) r ∷ []) n u
+      → (r ≡ oldest_row (none_next log n) (line log q)) × TrackerStands configs (log ++ entry_of (record { at = at; seed = seed; act = act.Next e }) r ∷ []) n u
   reads_on q asker reads =
       let first : r ≡ oldest_row reply.Pending (line log q) = reads.0 ∙ first_row (held t.told q) (line log q) (s.told q asker.own) in
       let entry = entry_of (record { at = at; seed = seed; act = act.Next e }) r in (
-        first,
+        first ∙ ap (λ b. oldest_row (cond b reply.StreamEnded reply.Pending) (line log q)) (sym lasts),
         read_stands configs log at seed n (act.Next e) t u r s refl refl refl refl q (line log q) t.answered refl asker first (λ d. refl) reads.1.0 reads.1.1 (λ none. refl)
             (λ d wants. s.answered d wants ∙ sym (was_answered-kept log entry d refl))
             (fresh-longer log entry t.answered s.fresh (λ d past. refl)),

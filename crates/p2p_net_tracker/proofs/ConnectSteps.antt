@@ -107,4 +107,4 @@ pub tracker_begun : (configs : List Config) (log : List Entry) (at seed n conn :
 tracker_begun configs log at seed n conn peer t s =
     let e = entry_of (record { at = at; seed = seed; act = act.SendStep conn n }) (begin_row n conn peer) in
     tracker_connected configs log e n conn peer t s
-    (record { no_step = refl; no_question = refl; no_answer = λ d. refl; no_end = no_end-reply n log e refl; no_admission = handshakes_of-apart log e n refl; takes = refl; puts = refl; ends = refl })
+    (record { no_step = refl; no_question = refl; no_answer = λ d. refl; no_end = no_end-reply n log e refl refl; no_admission = handshakes_of-apart log e n refl; takes = refl; puts = refl; ends = refl })

@@ -6,6 +6,7 @@ use Rattle.std.specs.Ordering.{nat_cmp}
 use Rattle.p2p_log.specs.declared.entry.Entry.{Entry}
 use Rattle.p2p_log.specs.declared.event.Act.{Act}
 use Rattle.p2p_log.specs.declared.event.Act.TheVariants as act
+use Rattle.p2p_log_rules.specs.Facts.{stops}
 use Rattle.p2p_log_rules.specs.Connections.{is_end, ends_connection, is_ended}
 pub use Rattle.p2p_log_rules.proofs.Connections.{is_ended-append, is_ended-kept, is_ended-none}
 use Rattle.p2p_log_rules.proofs.Connections.{may_end, ends_none-act, ends_none-reply}
@@ -15,24 +16,26 @@ use Rattle.p2p_net_tracker.specs.Heeding.{is_noted}
 
 -- ---- entries that end none
 
--- whether the act is a step of a half of a connection of this node
-abbrev pub steps_half : ℕ → Act → Bool
-steps_half n (act.SendStep conn m) = m == n
-steps_half n (act.RecvStep conn m) = m == n
-steps_half n _ = false
+-- whether the act is a step of a half of a connection of this node, or stops it
+abbrev pub may_end_here : ℕ → Act → Bool
+may_end_here n (act.SendStep conn m) = m == n
+may_end_here n (act.RecvStep conn m) = m == n
+may_end_here n (act.Stop by_start m) = m == n
+may_end_here n _ = false
 
 -- an act that is none ends no connection of the node
-pub no_end-act : (n : ℕ) (log : List Entry) (e : Entry) → steps_half n e.event.act ≡ false → (conn : ℕ) → ends_connection n conn log e ≡ false
+pub no_end-act : (n : ℕ) (log : List Entry) (e : Entry) → may_end_here n e.event.act ≡ false → (conn : ℕ) → ends_connection n conn log e ≡ false
 no_end-act n log e none conn = ends_none-act log e n conn e.event.act refl (by e.event.act none)
   where
-    by : (a : Act) → steps_half n a ≡ false → may_end n conn a ≡ false
-    by (act.SendStep k m) none = ap (λ b. (b && (k == conn)) || false) none
-    by (act.RecvStep k m) none = ap (λ b. b && (k == conn)) none
+    by : (a : Act) → may_end_here n a ≡ false → may_end n conn a ≡ false
+    by (act.SendStep k m) none = ap (λ b. ((b && (k == conn)) || false) || false) none
+    by (act.RecvStep k m) none = ap (λ b. (b && (k == conn)) || false) none
+    by (act.Stop by_start m) none = none
     by _ none = refl
 
--- nor does an entry whose reply tells of no end
-pub no_end-reply : (n : ℕ) (log : List Entry) (e : Entry) → is_end e.reply ≡ false → (conn : ℕ) → ends_connection n conn log e ≡ false
-no_end-reply n log e none conn = ends_none-reply log e n conn none
+-- nor does an entry whose reply tells of no end, where the node goes on
+pub no_end-reply : (n : ℕ) (log : List Entry) (e : Entry) → stops n e.event.act ≡ false → is_end e.reply ≡ false → (conn : ℕ) → ends_connection n conn log e ≡ false
+no_end-reply n log e goes_on none conn = ends_none-reply log e n conn goes_on none
 
 -- what is kept of those that have ended stays
 pub noted_stay : (log : List Entry) (e : Entry) (n : ℕ) (ended : List (ℕ × Unit {0})) → ((conn : ℕ) → is_noted ended conn ≡ is_ended log n conn) → ((conn : ℕ) → ends_connection n conn log e ≡ false)

@@ -23,11 +23,12 @@ use Rattle.p2p_log.specs.declared.event.Act.TheVariants as act
 use Rattle.p2p_log.specs.Lines.{line}
 use Rattle.p2p_log_rules.specs.declared.row.Row.{Row}
 use Rattle.p2p_log_rules.specs.Effect.{entry_of}
+use Rattle.p2p_log_rules.specs.Facts.{is_stopped}
 use Rattle.p2p_log_rules.specs.Rows.{only, mailbox_size_at}
 use Rattle.p2p_log_rules.proofs.Families.{kinds_of, are_apart}
 use Rattle.p2p_log_rules.proofs.Handshakes.{handshake_kinds, handshakes_of-apart}
 use Rattle.p2p_log_rules.specs.Tracking.{key_cmp}
-use Rattle.p2p_log_rules.specs.TrackerRows.{was_answered, asked_row, most_peers_at, size_at, track_row, ask_row}
+use Rattle.p2p_log_rules.specs.TrackerRows.{was_answered, feedback_by, asked_row, most_peers_at, size_at, track_row, ask_row}
 use Rattle.p2p_net_queues.specs.Board.{held}
 use Rattle.p2p_net_queues.specs.Tables as table
 use Rattle.p2p_net_queues.proofs.Tables.{lookup-insert_entry}
@@ -39,7 +40,7 @@ use Rattle.p2p_net_tracker.specs.Asking.{asking_row, asks_for, with_question, wi
 use Rattle.p2p_net_tracker.specs.Stands.{kind_of, asks_of, asks_at, Says, TrackerStands}
 use Rattle.p2p_net_tracker.proofs.Answering.{still_stands}
 use Rattle.p2p_net_tracker.proofs.Changes.{same_tickets, Asks, tracker_asked}
-use Rattle.p2p_net_tracker.proofs.Ended.{steps_half, no_end-act}
+use Rattle.p2p_net_tracker.proofs.Ended.{may_end_here, no_end-act}
 use Rattle.p2p_net_tracker.proofs.Facts.{asks_at-longer, asks_at-kept}
 use Rattle.p2p_net_queues.proofs.Matching.{Match-long, slice_get-longer, slice_get-last}
 use Rattle.p2p_log_rules.proofs.Steps.{steps_tracker}
@@ -57,18 +58,20 @@ told_is false items capacity waiting size h long wide =
     same true = refl
     same false = refl
 
-asking_is : (configs : List Config) (log : List Entry) (n : ℕ) (t : Tracker) → TrackerStands configs log n t → asking_row (told_of t.mailbox.desk) n (length log) ≡ asked_row configs log n
-asking_is configs log n t s =
+asking_is : (configs : List Config) (log : List Entry) (n : ℕ) (t : Tracker) → TrackerStands configs log n t → is_stopped log n ≡ false → asking_row (told_of t.mailbox.desk) n (length log) ≡ asked_row configs log n
+asking_is configs log n t s lasts =
     let q = t.mailbox.desk.messages in
+    let waits : Row = asking_row (feedback_by (mailbox_size_at configs n) (line log (queue.Tracker n))) n (length log) in
     ap (λ f. asking_row f n (length log))
     (told_is q.closed (length q.items) q.capacity (length (line log (queue.Tracker n))) (mailbox_size_at configs n) s.is_open (Match-long _ (line log (queue.Tracker n)) q.items s.messages) s.size)
+    ∙ ap (λ b. cond b (only (reply.Feedback feedback.Closed)) waits) (sym lasts)
 
 -- what an act asks of its own node
 asks_here : (n : ℕ) (what : Asked) → asks_of n (act.Ask what n) ≡ kind_of what
 asks_here n what = ap (λ b. cond b (kind_of what) None) (eq-eqb n n refl)
 
-module _ (configs : List Config) (log : List Entry) (at seed n : ℕ) (a : Act) (t u : Tracker) (r : Row) (s : TrackerStands configs log n t) (is : r ≡ asking_row (told_of t.mailbox.desk) n (length log))
-    (no_step : steps_tracker n a ≡ false) (no_answer : (d : ℕ) → takes_answer d a r.reply ≡ false) (no_half : steps_half n a ≡ false)
+module _ (configs : List Config) (log : List Entry) (at seed n : ℕ) (a : Act) (t u : Tracker) (r : Row) (s : TrackerStands configs log n t) (lasts : is_stopped log n ≡ false) (is : r ≡ asking_row (told_of t.mailbox.desk) n (length log))
+    (no_step : steps_tracker n a ≡ false) (no_answer : (d : ℕ) → takes_answer d a r.reply ≡ false) (no_ending : may_end_here n a ≡ false)
     (no_admission : are_apart (kinds_of a) handshake_kinds ≡ true) where
   abbrev e : Entry
   e = entry_of (record { at = at; seed = seed; act = a }) r
@@ -77,7 +80,7 @@ module _ (configs : List Config) (log : List Entry) (at seed n : ℕ) (a : Act) 
   asks = record {
     no_step = no_step;
     no_answer = no_answer;
-    no_end = no_end-act n log e no_half;
+    no_end = no_end-act n log e no_ending;
     no_admission = handshakes_of-apart log e n no_admission;
     takes = ap (λ (k : Row). k.takes) is;
     puts = ap (λ (k : Row). k.puts) is;
@@ -90,7 +93,7 @@ module _ (configs : List Config) (log : List Entry) (at seed n : ℕ) (a : Act) 
   -- a message that nobody is told of
   message_asked : (m : Message Key) → asks_of n a ≡ None → Says t.tickets (length log) a m → u ≡ asks_for t (length log) (with_message t.mailbox.desk m) → Done
   message_asked m no_question says same = (
-    is ∙ asking_is configs log n t s,
+    is ∙ asking_is configs log n t s lasts,
     subst (TrackerStands configs (log ++ e ∷ []) n) (sym same)
         (tracker_asked configs log e n t (with_message t.mailbox.desk m) t.tickets t.questions m s asks (same_tickets t.tickets) refl says s.questions s.updates s.sets
         (λ d. s.asked d ∙ sym (asks_at-kept log e n d no_question)) (λ d wants. s.answered d (sym (asks_at-kept log e n d no_question) ∙ wants))),
@@ -133,7 +136,7 @@ module _ (configs : List Config) (log : List Entry) (at seed n : ℕ) (a : Act) 
       let k = length log in
       let tickets : Tickets = record t.tickets { questions = t.tickets.questions ++ k ∷ [] } in
       let asks_it : asks_of n a ≡ Some question.PeerSet = ap (asks_of n) acts ∙ asks_here n (ask.PeerSet index) in (
-        is ∙ asking_is configs log n t s,
+        is ∙ asking_is configs log n t s lasts,
         subst (TrackerStands configs (log ++ e ∷ []) n) (sym same)
             (tracker_asked configs log e n t (asked d index) tickets (insert_entry nat_cmp t.questions k question.PeerSet) (message.PeerSet index (length d.questions)) s asks
             (record { questions = λ c f h. slice_get-longer t.tickets.questions (k ∷ []) c f h; updates = λ c f h. h; blocked = λ c f h. h }) refl
@@ -147,7 +150,7 @@ module _ (configs : List Config) (log : List Entry) (at seed n : ℕ) (a : Act) 
       let k = length log in
       let tickets : Tickets = record t.tickets { updates = t.tickets.updates ++ k ∷ [] } in
       let asks_it : asks_of n a ≡ Some question.Updates = ap (asks_of n) acts ∙ asks_here n ask.Subscribe in (
-        is ∙ asking_is configs log n t s,
+        is ∙ asking_is configs log n t s lasts,
         subst (TrackerStands configs (log ++ e ∷ []) n) (sym same)
             (tracker_asked configs log e n t (subscribed d) tickets (insert_entry nat_cmp t.questions k question.Updates) (message.Subscribe (length d.updates)) s asks
             (record { questions = λ c f h. h; updates = λ c f h. slice_get-longer t.tickets.updates (k ∷ []) c f h; blocked = λ c f h. h }) refl
@@ -161,7 +164,7 @@ module _ (configs : List Config) (log : List Entry) (at seed n : ℕ) (a : Act) 
       let k = length log in
       let tickets : Tickets = record t.tickets { blocked = t.tickets.blocked ++ k ∷ [] } in
       let asks_it : asks_of n a ≡ Some question.Blocked = ap (asks_of n) acts ∙ asks_here n ask.Blocked in (
-        is ∙ asking_is configs log n t s,
+        is ∙ asking_is configs log n t s lasts,
         subst (TrackerStands configs (log ++ e ∷ []) n) (sym same)
             (tracker_asked configs log e n t (blocked_subscribed d) tickets (insert_entry nat_cmp t.questions k question.Blocked) (message.SubscribeBlocked (length d.sets)) s asks
             (record { questions = λ c f h. h; updates = λ c f h. h; blocked = λ c f h. slice_get-longer t.tickets.blocked (k ∷ []) c f h }) refl
@@ -170,10 +173,10 @@ module _ (configs : List Config) (log : List Entry) (at seed n : ℕ) (a : Act) 
       )
 
 -- a set is asked for, unless it is too large
-track_asked : (configs : List Config) (log : List Entry) (at seed n index : ℕ) (peers : AddressableTrackedPeers Key) (t u : Tracker) (r : Row) → TrackerStands configs log n t
+track_asked : (configs : List Config) (log : List Entry) (at seed n index : ℕ) (peers : AddressableTrackedPeers Key) (t u : Tracker) (r : Row) → TrackerStands configs log n t → is_stopped log n ≡ false
     → r ≡ track_answer t n (length log) peers → u ≡ tracked_by t (length log) index peers
     → (r ≡ track_row configs log n peers) × TrackerStands configs (log ++ entry_of (record { at = at; seed = seed; act = act.Ask (ask.Track index peers) n }) r ∷ []) n u
-track_asked configs log at seed n index peers t u r s is same = by (nat_lt t.oracle.max_peers_per_set (size_by t peers)) refl is same
+track_asked configs log at seed n index peers t u r s lasts is same = by (nat_lt t.oracle.max_peers_per_set (size_by t peers)) refl is same
   where
     size : size_by t peers ≡ size_at configs n peers
     size = ap (λ k. set_size key_cmp k (keys_of peers.primary) (keys_of peers.secondary)) s.local
@@ -195,15 +198,15 @@ track_asked configs log at seed n index peers t u r s is same = by (nat_lt t.ora
           (same ∙ ap (λ (k : Tracker). record t { told = k.told }) (sym same)) (λ p own. ap (λ (k : Tracker). held k.told p) same ∙ s.told p own),
     )
     by false fits is same =
-        let done = message_asked configs log at seed n (act.Ask (ask.Track index peers) n) t u r s is refl (λ d. refl) refl refl (message.Register index peers) (asks_here n (ask.Track index peers)) (0, refl, tt) same in
+        let done = message_asked configs log at seed n (act.Ask (ask.Track index peers) n) t u r s lasts is refl (λ d. refl) refl refl (message.Register index peers) (asks_here n (ask.Track index peers)) (0, refl, tt) same in
         (done.0 ∙ sym (row_is false fits), done.1)
 
-pub ask_stands : (configs : List Config) (log : List Entry) (at seed n : ℕ) (what : Asked) (t u : Tracker) (r : Row) → TrackerStands configs log n t
+pub ask_stands : (configs : List Config) (log : List Entry) (at seed n : ℕ) (what : Asked) (t u : Tracker) (r : Row) → TrackerStands configs log n t → is_stopped log n ≡ false
     → r ≡ ask_answer t n (length log) what → u ≡ after_asking t (length log) what
     → (r ≡ ask_row configs log n what) × TrackerStands configs (log ++ entry_of (record { at = at; seed = seed; act = act.Ask what n }) r ∷ []) n u
-ask_stands configs log at seed n (ask.Track index peers) t u r s is same = track_asked configs log at seed n index peers t u r s is same
-ask_stands configs log at seed n (ask.PeerSet index) t u r s is same = peer_set_asked configs log at seed n (act.Ask (ask.PeerSet index) n) t u r s is refl (λ d. refl) refl refl index refl same
-ask_stands configs log at seed n ask.Subscribe t u r s is same = subscribe_asked configs log at seed n (act.Ask ask.Subscribe n) t u r s is refl (λ d. refl) refl refl refl same
-ask_stands configs log at seed n ask.Blocked t u r s is same = blocked_asked configs log at seed n (act.Ask ask.Blocked n) t u r s is refl (λ d. refl) refl refl refl same
-ask_stands configs log at seed n what t u r s is same =
-    message_asked configs log at seed n (act.Ask what n) t u r s is refl (λ d. refl) refl refl (message_of what 0) (asks_here n what) (0, refl, tt) same
+ask_stands configs log at seed n (ask.Track index peers) t u r s lasts is same = track_asked configs log at seed n index peers t u r s lasts is same
+ask_stands configs log at seed n (ask.PeerSet index) t u r s lasts is same = peer_set_asked configs log at seed n (act.Ask (ask.PeerSet index) n) t u r s lasts is refl (λ d. refl) refl refl index refl same
+ask_stands configs log at seed n ask.Subscribe t u r s lasts is same = subscribe_asked configs log at seed n (act.Ask ask.Subscribe n) t u r s lasts is refl (λ d. refl) refl refl refl same
+ask_stands configs log at seed n ask.Blocked t u r s lasts is same = blocked_asked configs log at seed n (act.Ask ask.Blocked n) t u r s lasts is refl (λ d. refl) refl refl refl same
+ask_stands configs log at seed n what t u r s lasts is same =
+    message_asked configs log at seed n (act.Ask what n) t u r s lasts is refl (λ d. refl) refl refl (message_of what 0) (asks_here n what) (0, refl, tt) same

@@ -10,6 +10,6 @@ returns-clause-subscriptions c =
 
 pub returns-clause-stands : goal.returns-clause-stands
 returns-clause-stands c =
-    λ configs log e s unbound g absent.
-    subscribed_stands configs log e c.args.self.now _ c.args.channel s g
+    λ configs log e s runs unbound g absent.
+    subscribed_stands configs log e c.args.self.now _ c.args.channel s runs g
     (is_subscribed c.args.self.now _ c.args.channel unbound c.in_ok-number.ensures.after c.in_ok-push.ensures.items (returns-clause-subscriptions c) refl) absent
