@@ -1,9 +1,7 @@
-//! An input judged: its JSON tree, and the run of it.
+//! An input judged: the run of it, or why it isn't run.
 ghost use Rattle.std.specs.Prelude.{◌≡◌, Some, None, Err, IfOk};
-ghost use Rattle.std.specs.Option.{option_map};
 ghost use Rattle.std.specs.String.{string_bytes};
 ghost use Rattle.serde_json.specs.Data.{Data};
-ghost use Rattle.serde_json.specs.View.{view};
 ghost use Rattle.p2p_sim.specs.Input.{json_of};
 ghost use Rattle.p2p_sim.specs.Judged.{judged};
 ghost use Rattle.p2p_sim.specs.declared.fault.Fault.{Fault};
@@ -11,8 +9,7 @@ ghost use Rattle.p2p_sim.specs.declared.judging.Stop.TheVariants as stop;
 
 use crate::fault::Fault;
 use crate::program::{Program, RunError};
-use serde_json::Value;
-use std::alloc::{AllocError, Global};
+use std::alloc::Global;
 
 /// Why an input gave no world.
 #[derive(Clone, Copy, PartialEq, Eq, Debug)]
@@ -23,37 +20,17 @@ pub enum Stop {
     Memory,
 }
 
-/// Runs the tree of an input, and gives the world and the text of its report.
+/// Runs an input, and gives the world and the text of its report.
 ///
 /// `Fault` comes of the input alone: `NotJson` first, and then what the program refuses.
 pub fn judge<P: Program>(alloc: Global, input: &[u8]) -> Result<(P::World, String), Stop>
     ensures ok { IfOk result (λ ran. (tree : Data) × (json_of input.now ≡ Some tree) × (P.refusal_of tree ≡ None) × P.Runs tree ran.0 (string_bytes ran.1)) }
     ensures fault { (f : Fault) → result ≡ Err (stop.Fault f) → judged P.refusal_of input.now ≡ Err f }
 {
-    let Ok(tree) = tree_of(alloc, input) else {
-        return Err(Stop::Memory);
-    };
-    let Some(tree) = tree else {
-        return Err(Stop::Fault(Fault::NotJson));
-    };
-    match P::run(alloc, tree) {
+    match P::run(alloc, input) {
         Ok(ran) => Ok(ran),
+        Err(RunError::NotJson) => Err(Stop::Fault(Fault::NotJson)),
         Err(RunError::Refused(refusal)) => Err(Stop::Fault(Fault::Refused(refusal))),
         Err(RunError::Memory) => Err(Stop::Memory),
-    }
-}
-
-/// The tree of an input. `None` comes exactly of bytes that aren't UTF-8 or aren't JSON.
-pub fn tree_of(alloc: Global, input: &[u8]) -> Result<Option<Value>, AllocError>
-    ensures { IfOk result (λ tree. option_map view tree ≡ json_of input.now) }
-{
-    match Value::from_slice(alloc, input) {
-        Ok(tree) => Ok(Some(tree)),
-        Err(e) => {
-            if e.is_memory() {
-                return Err(AllocError);
-            }
-            Ok(None)
-        }
     }
 }

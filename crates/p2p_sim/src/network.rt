@@ -1,19 +1,19 @@
 //! The network, as the program that the top call runs.
 ghost use Rattle.std.specs.Prelude.{◌≡◌, true, false, Some, None, Ok, Err, IfOk, OnOk};
 ghost use Rattle.std.specs.String.{string_bytes};
-ghost use Rattle.serde_json.specs.View.{view};
+ghost use Rattle.serde_json.specs.Data.{Data};
 ghost use Rattle.p2p_log_laws.specs.Accounted.{IsAccounted};
 ghost use Rattle.p2p_sim_script.specs.Form.{script_of};
+ghost use Rattle.p2p_sim.specs.Input.{json_of};
 ghost use Rattle.p2p_sim.specs.Network.{fault_of, refusal_of as refusal_of_tree, HasRunScript};
 ghost use Rattle.p2p_sim.specs.declared.program.RunError.TheVariants as run_error;
 
 use crate::program::{Program, Refusal, RunError};
+use crate::script::{ScriptError, read_script};
 use p2p_base::List;
 use p2p_log::{Config, Event};
 use p2p_net::{RunError as WorldError, World};
 use p2p_sim_report::write_report;
-use p2p_sim_script::{ScriptError, read_script};
-use serde_json::Value;
 use std::alloc::Global;
 
 /// The program that runs a script on a network.
@@ -28,8 +28,8 @@ impl Program for Network {
 
     ghost Runs = { RunsTree };
 
-    fn run(alloc: Global, tree: Value) -> Result<(World, String), RunError> {
-        let (configs, script) = read(alloc, tree)?;
+    fn run(alloc: Global, input: &[u8]) -> Result<(World, String), RunError> {
+        let (configs, script) = read(alloc, input)?;
         let world = run_script(alloc, configs.as_slice(), script.as_slice())?;
         match write_report(alloc, world.report()) {
             Ok(text) => Ok((world, text)),
@@ -38,13 +38,16 @@ impl Program for Network {
     }
 }
 
-// Reads a script, and gives the memory of its tree back.
-fn read(alloc: Global, tree: Value) -> Result<(List<Config>, List<Event>), RunError>
-    ensures says { IfOk result (λ s. script_of (view tree) ≡ Some s) }
-    ensures refused { (r : Refusal) → result ≡ Err (run_error.Refused r) → refusal_of_tree (view tree) ≡ Some r }
+// Reads the script that an input says.
+fn read(alloc: Global, input: &[u8]) -> Result<(List<Config>, List<Event>), RunError>
+    ensures says { IfOk result (λ s. (tree : Data) × (json_of input.now ≡ Some tree) × (script_of tree ≡ Some s)) }
+    ensures not_json { result ≡ Err run_error.NotJson → json_of input.now ≡ None }
+    ensures refused { (r : Refusal) → result ≡ Err (run_error.Refused r)
+        → (tree : Data) × (json_of input.now ≡ Some tree) × (refusal_of_tree tree ≡ Some r) }
 {
-    match read_script(alloc, &tree) {
+    match read_script(alloc, input) {
         Ok(script) => Ok(script),
+        Err(ScriptError::NotJson) => Err(RunError::NotJson),
         Err(ScriptError::NotScript) => Err(RunError::Refused(Refusal::NotScript)),
         Err(ScriptError::Memory) => Err(RunError::Memory),
     }
@@ -57,6 +60,7 @@ pub fn run_script(alloc: Global, configs: &[Config], script: &[Event]) -> Result
     ensures ran { IfOk result (λ w. HasRunScript configs.now script.now w) }
     ensures accounted { IfOk result (λ w. IsAccounted configs.now w.log) }
     ensures valid { OnOk result (fault_of configs.now script.now ≡ None) }
+    ensures json { ¬ (result ≡ Err run_error.NotJson) }
     ensures refused { (r : Refusal) → result ≡ Err (run_error.Refused r) → fault_of configs.now script.now ≡ Some r }
 {
     match World::run(alloc, configs, script) {

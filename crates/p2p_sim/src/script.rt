@@ -5,11 +5,11 @@ ghost use Rattle.p2p_sim_script.specs.Form.{script_of};
 ghost use Rattle.p2p_sim.specs.Input.{json_of};
 ghost use Rattle.p2p_sim.specs.declared.script.ScriptError.TheVariants as error;
 
-use crate::judging::tree_of;
 use p2p_base::List;
 use p2p_log::{Config, Event};
-use p2p_sim_script::{ScriptError as TreeError, read_script as read_tree};
+use p2p_sim_script::{ReadError, read_script_text};
 use std::alloc::Global;
+use std::str::from_utf8;
 use thiserror::Error;
 
 /// Why bytes give no script.
@@ -35,15 +35,13 @@ pub fn read_script(alloc: Global, bytes: &[u8]) -> Result<(List<Config>, List<Ev
     ensures not_json { result ≡ Err error.NotJson → json_of bytes.now ≡ None }
     ensures not_script { result ≡ Err error.NotScript → (tree : Data) × (json_of bytes.now ≡ Some tree) × (script_of tree ≡ None) }
 {
-    let Ok(tree) = tree_of(alloc, bytes) else {
-        return Err(ScriptError::Memory);
-    };
-    let Some(tree) = tree else {
+    let Ok(text) = from_utf8(bytes) else {
         return Err(ScriptError::NotJson);
     };
-    match read_tree(alloc, &tree) {
-        Ok(script) => Ok(script),
-        Err(TreeError::NotScript) => Err(ScriptError::NotScript),
-        Err(TreeError::Memory) => Err(ScriptError::Memory),
-    }
+    let script = match read_script_text(alloc, text) {
+        Ok(script) => script,
+        Err(ReadError::NotJson) => return Err(ScriptError::NotJson),
+        Err(ReadError::Memory) => return Err(ScriptError::Memory),
+    };
+    script.ok_or(ScriptError::NotScript)
 }

@@ -6,3 +6,5 @@ pub mod KeyOrder
 pub mod Lists
 pub mod Names
 pub mod Refusals
+pub mod Saying
+pub mod Taking

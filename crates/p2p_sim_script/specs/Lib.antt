@@ -10,5 +10,7 @@ pub mod GeneratedTree
 pub mod Gives
 pub mod Parts
 pub mod Presets
+pub mod Said
+pub mod Taken
 pub mod TrackerActForm
 pub mod Tree

@@ -1,7 +1,9 @@
 //! Why a tree gives no script.
 ghost use Rattle.std.specs.Prelude.{◌≡◌};
 ghost use Rattle.p2p_sim_script.specs.declared.error.ScriptError.TheVariants.{Memory};
+ghost use Rattle.p2p_sim_script.specs.declared.error.ReadError.TheVariants.{NotJson, Memory as memory};
 
+use json::Invalid;
 use std::alloc::{AllocError, AllocFailed};
 use thiserror::Error;
 
@@ -29,5 +31,40 @@ impl<T: Drop> From<AllocFailed<T>> for ScriptError {
 
     fn from(_error: AllocFailed<T>) -> ScriptError {
         ScriptError::Memory
+    }
+}
+
+/// Why a text isn't read.
+#[derive(Clone, Copy, PartialEq, Eq, Debug, Drop, Error)]
+pub enum ReadError {
+    /// The text isn't JSON.
+    #[error("not JSON")]
+    NotJson,
+    /// There was no memory for what the text says.
+    #[error("out of memory")]
+    Memory,
+}
+
+impl From<Invalid> for ReadError {
+    ghost from_gives = { λ _ e. e ≡ NotJson };
+
+    fn from(_invalid: Invalid) -> ReadError {
+        ReadError::NotJson
+    }
+}
+
+impl From<AllocError> for ReadError {
+    ghost from_gives = { λ _ e. e ≡ memory };
+
+    fn from(_error: AllocError) -> ReadError {
+        ReadError::Memory
+    }
+}
+
+impl<T: Drop> From<AllocFailed<T>> for ReadError {
+    ghost from_gives = { λ _ e. e ≡ memory };
+
+    fn from(_error: AllocFailed<T>) -> ReadError {
+        ReadError::Memory
     }
 }

@@ -1,7 +1,7 @@
-use Rattle.std.proofs.Common.{◌∙◌, ap, subst}
+use Rattle.std.proofs.Common.{◌≡◌, None, ◌∙◌, sym, ap, ap₂, subst, arith}
 use Rattle.p2p_log_laws.specs.Accounted.{IsAccounted}
 use Rattle.p2p_sim_report.specs.ReportText.{report_text}
-use Rattle.p2p_sim.specs.Network.{HasRunScript}
+use Rattle.p2p_sim.specs.Network.{HasRunScript, fault_of, tree_refusal, refusal_of}
 use Rattle.p2p_sim.proofs.network.NetworkProgram.run.Goals as goal
 
 pub returns-in-Ok-clause-ok : goal.returns-in-Ok-clause-ok
@@ -9,14 +9,25 @@ returns-in-Ok-clause-ok c =
     let configs = c.in_ok-configs.configs in
     let script = c.in_ok-configs.script in
     let world = c.in_ok-world.world in
+    let says = c.in_ok-configs.ensures.says in
     let ran : HasRunScript configs script world =
     subst (λ l. HasRunScript configs l world) c.as_slice-2.ensures
     (subst (λ l. HasRunScript l c.as_slice-2.result.now world) c.as_slice.ensures c.in_ok-world.ensures.ran)
     in
-    record {
-      script = (configs, script);
-      says = c.in_ok-configs.ensures.says;
-      ran = ran;
-      reports = c.in-Ok.ensures ∙ ap report_text c.report.ensures;
-      accounted = subst (λ l. IsAccounted l world.log) c.as_slice.ensures c.in_ok-world.ensures.accounted;
-    }
+    let accepted : refusal_of says.0 ≡ None = ap tree_refusal says.2 ∙ (ap₂ fault_of (sym c.as_slice.ensures) (sym c.as_slice-2.ensures) ∙ c.in_ok-world.ensures.valid) in (
+      says.0,
+      says.1,
+      accepted,
+      record {
+        script = (configs, script);
+        says = says.2;
+        ran = ran;
+        reports = c.in-Ok.ensures ∙ ap report_text c.report.ensures;
+        accounted = subst (λ l. IsAccounted l world.log) c.as_slice.ensures c.in_ok-world.ensures.accounted;
+      },
+    )
+
+pub returns-in_err-world-clause-refused : goal.returns-in_err-world-clause-refused
+returns-in_err-world-clause-refused c r e =
+    let says = c.in_ok-configs.ensures.says in
+    (says.0, says.1, ap tree_refusal says.2 ∙ (ap₂ fault_of (sym c.as_slice.ensures) (sym c.as_slice-2.ensures) ∙ c.run_script.ensures.refused r (grind arith)))
