@@ -6,5 +6,3 @@ ACTS = frozenset('''
     raw_dial raw_accept raw_write raw_read raw_close
     mux mux_register mux_poll give_up sub_send sub_recv sub_close global_send backup_recv mux_step
 '''.split())
-
-START_NAMES = frozenset(['bind'])

@@ -17,6 +17,7 @@ SAMPLES = {
     'at': '0',
     'do': '"start"',
     'node': '0',
+    'bind': 'true',
     'channel': '7',
     'quota': QUOTA,
     'burst': '1',

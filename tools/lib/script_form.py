@@ -97,7 +97,7 @@ ACT_FORMS = {
 }
 
 # The names of an act that may be left out.
-OPTIONAL_FORMS = {'track': {'secondary': some_peers}}
+OPTIONAL_FORMS = {'start': {'bind': a_flag}, 'track': {'secondary': some_peers}}
 
 
 class Part:
@@ -171,12 +171,10 @@ def read_event(number, field):
 
 def read_act(number, field, act, at):
     forms, optional_forms = ACT_FORMS[act], OPTIONAL_FORMS.get(act, {})
-    extra = later.START_NAMES if act == 'start' else ()
-    an_object(field, ['at', 'seed', 'do', *forms, *optional_forms], extra)
+    an_object(field, ['at', 'seed', 'do', *forms, *optional_forms])
     said = read_names(field, forms, optional_forms)
-    for name, name_at, _ in field.value.held:
-        if name in extra:
-            raise NotBuilt(name_at, field.what, '`%s` is not built yet' % name)
+    if said.get('bind') is False:
+        raise NotBuilt(field.value.get('bind').at, field.what, 'a start that does not bind is not built yet')
     said['at'] = at
     return Part(number, field, said, act)
 

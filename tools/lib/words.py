@@ -39,12 +39,12 @@ class Field:
         return self.value.get(name) is not None
 
 
-def an_object(field, names, more=()):
-    """An object with no other names than these, of which the latter are not told."""
+def an_object(field, names):
+    """An object with no other names than these."""
     if field.value.kind != 'object':
         raise field.due('an object', as_sample(field.name))
     for name, at, _ in field.value.held:
-        if name not in names and name not in more:
+        if name not in names:
             raise Fault(at, field.what, '"%s" is no name of it%s; its names are %s' % (name, perhaps(name, names), listed(names)))
     return field
 

@@ -1,10 +1,10 @@
 -- The form of each act: beside the names that every event has, an event has exactly the names of its act.
-use Rattle.std.specs.Prelude.{ℕ, List, [], ◌∷◌, codes, bytes_eq, Option, Some, if◌then◌else◌}
+use Rattle.std.specs.Prelude.{ℕ, true, List, [], ◌∷◌, codes, bytes_eq, Option, Some, if◌then◌else◌}
 use Rattle.serde_json.specs.Data.{Data}
 use Rattle.serde_json.specs.Find.{as_str, as_bool}
 use Rattle.p2p_log.specs.declared.event.Act.{Act}
 use Rattle.p2p_log.specs.declared.event.Act.TheVariants as act
-use Rattle.p2p_sim_script.specs.Tree.{◌>>=◌, ◌>>◌, field, whole}
+use Rattle.p2p_sim_script.specs.Tree.{◌>>=◌, ◌>>◌, field, absent_or, whole}
 use Rattle.p2p_sim_script.specs.Parts.{has, node_of, bytes_of, rate_of, recipients_of}
 use Rattle.p2p_sim_script.specs.TrackerActForm.{tracker_act_named}
 
@@ -16,9 +16,13 @@ register_of d = do
   quota ← field "quota" rate_of d
   Some (act.Register channel node quota)
 
+-- a start binds where it does not say whether; one that does not stops its node, which is not built yet
 abbrev pub start_of : Data → Option Act
 start_of d = do
-  node ← node_of d
+  has ("bind" ∷ "node" ∷ []) d
+  binds ← absent_or true "bind" as_bool d
+  binds
+  node ← field "node" whole d
   Some (act.Start node)
 
 abbrev pub send_of : Data → Option Act

@@ -7,7 +7,7 @@ ghost use Rattle.p2p_sim_script.specs.ActForm.{act_named, act_of, check_of, clos
 use crate::error::ScriptError;
 use crate::parts::{read_node, read_rate};
 use crate::tracker_act::read_tracker_named;
-use crate::tree::{field, only, whole};
+use crate::tree::{field, flag_or, only, whole};
 use p2p_log::Act;
 use serde_json::Value;
 use std::alloc::Global;
@@ -31,7 +31,13 @@ fn read_register(tree: &Value) -> Option<Act>
 fn read_start(tree: &Value) -> Option<Act>
     ensures { result ≡ start_of (view tree.now) }
 {
-    let node = read_node(tree)?;
+    if !only(tree, &["at", "seed", "do", "bind", "node"]) {
+        return None;
+    }
+    if !flag_or(tree, "bind", true)? {
+        return None;
+    }
+    let node = whole(tree, "node")?;
     Some(Act::Start { node })
 }
 
