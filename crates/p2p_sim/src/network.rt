@@ -31,6 +31,8 @@ impl Program for Network {
     fn run(alloc: Global, input: &[u8]) -> Result<(World, String), RunError> {
         let (configs, script) = read(alloc, input)?;
         let world = run_script(alloc, configs.as_slice(), script.as_slice())?;
+        // The report is of the world alone, and has the memory of the events.
+        drop(script);
         match write_report(alloc, world.report()) {
             Ok(text) => Ok((world, text)),
             Err(_) => Err(RunError::Memory),
