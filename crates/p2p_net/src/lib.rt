@@ -6,6 +6,7 @@ mod applying;
 mod error;
 mod events;
 mod naming;
+mod stopping;
 mod valid;
 mod world;
 

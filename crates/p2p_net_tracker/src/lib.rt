@@ -11,7 +11,8 @@ pub mod heeding;
 pub mod naming;
 pub mod question;
 pub mod reading;
-pub mod telling;
+pub mod stopping;
+mod telling;
 pub mod tracker;
 
 pub use question::Question;

@@ -48,6 +48,15 @@ impl Tracker {
         }
     }
 
+    /// Takes the oldest item of a subscription's queue.
+    fn read_on(&mut self, alloc: Global, queue: Queue) -> Result<Row, AllocError> {
+        let row = self.read(alloc, queue)?;
+        if self.mailbox.is_closed() && matches!(row.reply, Reply::Pending) {
+            return Ok(only(alloc, Reply::StreamEnded));
+        }
+        Ok(row)
+    }
+
     /// Takes the answer to a question for a peer set, unless it was taken before.
     fn read_answer(&mut self, turn: Turn, question: u64) -> Result<Row, AllocError>
         ensures { IfOk result (λ r. ReadsAnswer turn.node question self.old self.new r) }
@@ -56,7 +65,10 @@ impl Tracker {
             return Ok(only(turn.alloc, Reply::Gone));
         }
         let node = turn.node;
-        let row = self.read(turn.alloc, Queue::Answer { node, question })?;
+        let mut row = self.read(turn.alloc, Queue::Answer { node, question })?;
+        if self.mailbox.is_closed() && matches!(row.reply, Reply::Pending) {
+            row = only(turn.alloc, Reply::PeerSet(None));
+        }
         if is_answer(&row.reply) {
             self.answered.insert(question, true)?;
         }
@@ -84,10 +96,10 @@ impl Tracker {
         let node = turn.node;
         match self.questions.get(question) {
             Some(Question::Updates) => {
-                Ok(self.read(turn.alloc, Queue::Updates { node, question })?)
+                Ok(self.read_on(turn.alloc, Queue::Updates { node, question })?)
             }
             Some(Question::Blocked) => {
-                Ok(self.read(turn.alloc, Queue::Blocked { node, question })?)
+                Ok(self.read_on(turn.alloc, Queue::Blocked { node, question })?)
             }
             _ => Ok(only(turn.alloc, Reply::Gone)),
         }

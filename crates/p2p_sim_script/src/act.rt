@@ -34,11 +34,24 @@ fn read_start(tree: &Value) -> Option<Act>
     if !only(tree, &["at", "seed", "do", "bind", "node"]) {
         return None;
     }
-    if !flag_or(tree, "bind", true)? {
-        return None;
-    }
+    let bind = flag_or(tree, "bind", true)?;
     let node = whole(tree, "node")?;
-    Some(Act::Start { node })
+    if bind {
+        Some(Act::Start { node })
+    } else {
+        Some(Act::Stop {
+            by_start: true,
+            node,
+        })
+    }
+}
+
+fn read_stop(tree: &Value) -> Option<Act> {
+    let node = read_node(tree)?;
+    Some(Act::Stop {
+        by_start: false,
+        node,
+    })
 }
 
 fn read_router(tree: &Value) -> Option<Act>
@@ -155,6 +168,7 @@ fn read_named(alloc: Global, word: &str, tree: &Value) -> Result<Act, ScriptErro
     let act = match word {
         "register" => read_register(tree),
         "start" => read_start(tree),
+        "stop" => read_stop(tree),
         "router" => read_router(tree),
         "send_step" => read_send_step(tree),
         "recv_step" => read_recv_step(tree),
