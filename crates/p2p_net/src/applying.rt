@@ -7,7 +7,6 @@ ghost use Rattle.p2p_net.specs.Applying.{NodeRecords, NodeApplies, NodeStandsWit
 
 use crate::error::NodeError;
 use p2p_base::List;
-use crate::stopping::stop;
 use p2p_log::{Act, Entry, Event, Reply};
 use p2p_log_rules::Row;
 use p2p_net_calls::{check, close, read, register, send, send_checked, start};
@@ -105,28 +104,9 @@ fn act_at(node: &mut Node, turn: Turn, links: &mut Links, event: &Event) -> Resu
     ensures failed { OnOk result (node.new.failed ≡ node.old.failed) }
 {
     match &event.act {
-        Act::Register { channel, quota, .. } => {
-            let capacity = node.retained * quota.burst as usize;
-            node.asked_channels.insert(*channel, capacity)?;
-            node.asked_total = node.asked_total + capacity;
-            if node.is_stopped() {
-                return Ok(only(turn.alloc, Reply::Gone));
-            }
-            Ok(register(node, turn, *channel, *quota)?)
-        }
-        Act::Start { .. } => {
-            node.asked = true;
-            if node.is_stopped() {
-                return Ok(only(turn.alloc, Reply::Gone));
-            }
-            Ok(start(node, turn, event.at)?)
-        }
-        Act::Stop { by_start, .. } => {
-            if *by_start {
-                node.asked = true;
-            }
-            Ok(stop(node, turn, links)?)
-        }
+        Act::Register { channel, quota, .. } => Ok(register(node, turn, *channel, *quota)?),
+        Act::Start { .. } => Ok(start(node, turn, event.at)?),
+        Act::Stop { .. } => Ok(only(turn.alloc, Reply::Idle)),
         Act::Send {
             bytes,
             channel,

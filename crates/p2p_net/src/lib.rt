@@ -6,7 +6,6 @@ mod applying;
 mod error;
 mod events;
 mod naming;
-mod stopping;
 mod valid;
 mod world;
 

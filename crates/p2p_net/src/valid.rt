@@ -13,10 +13,10 @@ fn may_register(node: &Node, channel: u64, quota: Rate) -> bool
 {
     let capacity = node.retained as u128 * quota.burst as u128;
     let most = usize::MAX as u128;
-    ((!node.asked && !node.asked_channels.has(channel))
+    ((!node.is_started() && !node.channels.capacities.has(channel))
         && (0 < quota.burst && 0 < quota.period))
         && (capacity <= most
-            && node.config.mailbox_size as u128 + (node.asked_total as u128 + capacity) <= most)
+            && node.config.mailbox_size as u128 + (node.channels.total as u128 + capacity) <= most)
 }
 
 /// Whether the entry of this number is of a step of a node's spawner.
@@ -110,8 +110,8 @@ fn may_ask(log: &[Entry], node: &Node, act: &Act) -> bool
 {
     match act {
         Act::Register { channel, quota, .. } => may_register(node, *channel, *quota),
-        Act::Start { .. } => !node.asked,
-        Act::Stop { by_start, .. } => !(*by_start && node.asked),
+        Act::Start { .. } => !node.is_started(),
+        Act::Stop { .. } => false,
         Act::SendChecked { check, .. } => checks(log, *check),
         Act::SendStep { conn, node } => is_spawned(log, *conn, *node),
         Act::RecvStep { conn, node } => is_spawned(log, *conn, *node),

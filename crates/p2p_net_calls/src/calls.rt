@@ -52,9 +52,6 @@ pub fn read(node: &mut Node, turn: Turn, channel: u64) -> Result<Row, AllocError
         return Ok(only(turn.alloc, Reply::Gone));
     }
     let row = node.channels.read(turn.alloc, channel)?;
-    if node.is_stopped() && matches!(row.reply, Reply::Pending) {
-        return Ok(only(turn.alloc, Reply::NetworkClosed));
-    }
     Ok(row)
 }
 

@@ -163,10 +163,6 @@ fn send_to(
     if size > limit {
         return Ok(only(turn.alloc, Reply::MessageTooLarge { size, limit }));
     }
-    if node.is_stopped() {
-        let reply = telling.closed(turn.alloc, turn.node, channel, keys);
-        return Ok(only(turn.alloc, reply));
-    }
     Ok(
         node.router
             .send(turn, telling, channel, priority, bytes, keys)?,

@@ -52,28 +52,3 @@ impl Links {
         }
     }
 }
-
-impl Links {
-    /// The end of a link that writes in this direction is dropped for this cause.
-    pub fn drop_end_for(
-        &mut self,
-        alloc: Global,
-        row: &mut Row,
-        link: u64,
-        side: Side,
-        cause: Cause,
-    ) -> Result<(), AllocError> {
-        match side {
-            Side::Out => {
-                let left = self.inward.take_all_at(alloc, link);
-                self.dropped_outward.insert(link, ())?;
-                drop_items(row, left, cause)
-            }
-            Side::In => {
-                let left = self.outward.take_all_at(alloc, link);
-                self.dropped_inward.insert(link, ())?;
-                drop_items(row, left, cause)
-            }
-        }
-    }
-}

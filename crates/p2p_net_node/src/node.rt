@@ -17,7 +17,6 @@ use p2p_log::Config;
 use p2p_net_channels::Channels;
 use p2p_net_connections::{Connections, Spawning};
 use p2p_net_gates::{Dialing, Listening, gates_config};
-use p2p_net_queues::Table;
 use p2p_net_router::Router;
 use p2p_net_tracker::Tracker;
 use std::alloc::{AllocError, Global};
@@ -42,12 +41,6 @@ pub struct Node {
     pub listening: Listening,
     /// The connections that its spawner is to make.
     pub spawning: Spawning,
-    /// Whether it was asked to start.
-    pub asked: bool,
-    /// The channels it was asked to register, with what each would hold.
-    pub asked_channels: Table<usize>,
-    /// What these would hold together.
-    pub asked_total: usize,
     /// Whether it found no memory.
     pub failed: bool,
 }
@@ -64,9 +57,6 @@ impl Drop for Node {
             dialing: _dialing,
             listening: _listening,
             spawning: _spawning,
-            asked: _asked,
-            asked_channels: _asked_channels,
-            asked_total: _asked_total,
             failed: _failed,
         } = self;
     }
@@ -107,16 +97,8 @@ impl Node {
             dialing: Dialing::new(alloc),
             listening,
             spawning,
-            asked: false,
-            asked_channels: Table::new(alloc),
-            asked_total: 0,
             failed: false,
         })
-    }
-
-    /// Whether it has stopped.
-    pub fn is_stopped(&self) -> bool {
-        self.router.messenger.closed()
     }
 
     /// Whether it has started.

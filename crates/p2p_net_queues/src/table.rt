@@ -62,11 +62,6 @@ impl<V: Drop> Table<V> {
         self.tree.remove(&key)
     }
 
-    /// Takes the first key with its value.
-    pub fn pop_first(&mut self) -> Option<(u64, V)> {
-        self.tree.pop_first()
-    }
-
     /// The value of a key, where it stands.
     pub fn find(&self, key: u64) -> Option<&V>
         ensures { option_copied result ≡ at self.now key }

@@ -14,7 +14,6 @@ mod peers;
 mod release;
 mod router;
 mod step;
-mod stopping;
 mod telling;
 
 pub use name::Name;

@@ -31,19 +31,6 @@ impl Telling {
         }
     }
 
-    /// The reply to a message for these keys at a node that has stopped.
-    pub fn closed(self, alloc: Global, node: u64, channel: u64, keys: List<Key>) -> Reply {
-        match self {
-            Telling::Sent => Reply::Sent(List::empty(alloc)),
-            Telling::Outcome => Reply::Outcome {
-                outcome: Unreliable::Outcome(Feedback::Closed),
-                node,
-                channel,
-                keys,
-            },
-        }
-    }
-
     /// The reply to a message for these keys that is refused.
     pub(crate) fn refused(self, alloc: Global, node: u64, channel: u64, keys: List<Key>) -> Reply
         ensures { result ≡ refused_reply self node channel keys }

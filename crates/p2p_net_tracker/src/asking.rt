@@ -117,9 +117,6 @@ impl Tracker {
         ensures row { IfOk result (λ r. r ≡ asking_row told turn.node turn.entry) }
         ensures after { OnOk result (self.new ≡ record self.old { names = self.old.names ++ (turn.entry, 0) ∷ [] }) }
     {
-        if self.mailbox.is_closed() {
-            return Ok(only(turn.alloc, Reply::Feedback(Feedback::Closed)));
-        }
         self.names.push((turn.entry, 0))?;
         let mut row = only(turn.alloc, Reply::Feedback(told));
         row.puts

@@ -65,7 +65,7 @@ impl Tracker {
     }
 
     // Ends all that stands in a queue.
-    pub(crate) fn end_all(&mut self, queue: Queue, row: &mut Row) -> Result<(), AllocError>
+    fn end_all(&mut self, queue: Queue, row: &mut Row) -> Result<(), AllocError>
         ensures row { OnOk result (row.new ≡ record row.old { ends = row.old.ends ++ left_ends (held self.old.told queue) }) }
         ensures told { OnOk result ((q : Name) → held self.new.told q ≡ (if same_queue queue q then [] else held self.old.told q)) }
         ensures rest { OnOk result (self.new ≡ record self.old { told = self.new.told }) }

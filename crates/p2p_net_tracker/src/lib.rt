@@ -11,8 +11,7 @@ pub mod heeding;
 pub mod naming;
 pub mod question;
 pub mod reading;
-pub mod stopping;
-mod telling;
+pub mod telling;
 pub mod tracker;
 
 pub use question::Question;

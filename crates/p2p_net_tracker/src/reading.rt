@@ -48,15 +48,6 @@ impl Tracker {
         }
     }
 
-    /// Takes the oldest item of a subscription's queue.
-    fn read_on(&mut self, alloc: Global, queue: Queue) -> Result<Row, AllocError> {
-        let row = self.read(alloc, queue)?;
-        if self.mailbox.is_closed() && matches!(row.reply, Reply::Pending) {
-            return Ok(only(alloc, Reply::StreamEnded));
-        }
-        Ok(row)
-    }
-
     /// Takes the answer to a question for a peer set, unless it was taken before.
     fn read_answer(&mut self, turn: Turn, question: u64) -> Result<Row, AllocError>
         ensures { IfOk result (λ r. ReadsAnswer turn.node question self.old self.new r) }
@@ -65,10 +56,7 @@ impl Tracker {
             return Ok(only(turn.alloc, Reply::Gone));
         }
         let node = turn.node;
-        let mut row = self.read(turn.alloc, Queue::Answer { node, question })?;
-        if self.mailbox.is_closed() && matches!(row.reply, Reply::Pending) {
-            row = only(turn.alloc, Reply::PeerSet(None));
-        }
+        let row = self.read(turn.alloc, Queue::Answer { node, question })?;
         if is_answer(&row.reply) {
             self.answered.insert(question, true)?;
         }
@@ -96,10 +84,10 @@ impl Tracker {
         let node = turn.node;
         match self.questions.get(question) {
             Some(Question::Updates) => {
-                Ok(self.read_on(turn.alloc, Queue::Updates { node, question })?)
+                Ok(self.read(turn.alloc, Queue::Updates { node, question })?)
             }
             Some(Question::Blocked) => {
-                Ok(self.read_on(turn.alloc, Queue::Blocked { node, question })?)
+                Ok(self.read(turn.alloc, Queue::Blocked { node, question })?)
             }
             _ => Ok(only(turn.alloc, Reply::Gone)),
         }

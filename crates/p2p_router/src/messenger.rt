@@ -148,7 +148,7 @@ impl<P: Drop> Messenger<P> {
     }
 
     // Removes the oldest message of the mailbox.
-    pub fn take(&mut self) -> Option<Message<P>>
+    pub(crate) fn take(&mut self) -> Option<Message<P>>
         ensures value { result ≡ message_waiting self.old }
         ensures after { self.new ≡ message_taken self.old }
         ensures unchanged { IfNone result (self.new ≡ self.old) }

@@ -34,24 +34,11 @@ fn read_start(tree: &Value) -> Option<Act>
     if !only(tree, &["at", "seed", "do", "bind", "node"]) {
         return None;
     }
-    let bind = flag_or(tree, "bind", true)?;
-    let node = whole(tree, "node")?;
-    if bind {
-        Some(Act::Start { node })
-    } else {
-        Some(Act::Stop {
-            by_start: true,
-            node,
-        })
+    if !flag_or(tree, "bind", true)? {
+        return None;
     }
-}
-
-fn read_stop(tree: &Value) -> Option<Act> {
-    let node = read_node(tree)?;
-    Some(Act::Stop {
-        by_start: false,
-        node,
-    })
+    let node = whole(tree, "node")?;
+    Some(Act::Start { node })
 }
 
 fn read_router(tree: &Value) -> Option<Act>
@@ -168,7 +155,6 @@ fn read_named(alloc: Global, word: &str, tree: &Value) -> Result<Act, ScriptErro
     let act = match word {
         "register" => read_register(tree),
         "start" => read_start(tree),
-        "stop" => read_stop(tree),
         "router" => read_router(tree),
         "send_step" => read_send_step(tree),
         "recv_step" => read_recv_step(tree),

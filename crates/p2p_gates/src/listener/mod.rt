@@ -202,11 +202,6 @@ impl<P: PublicKey> Listener<P> {
         Ok(Stepped::goes_on(Input::Update, None))
     }
 
-    /// Drops the oldest arrival, where there is one.
-    pub fn drop_arrival(&mut self) -> Option<Arrival<P>> {
-        self.arrivals.pop()
-    }
-
     // Takes the oldest arrival through the gates, if there is one.
     fn receive(
         &mut self,
