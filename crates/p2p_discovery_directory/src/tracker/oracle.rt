@@ -1,0 +1,138 @@
+//! `Oracle`, which asks the tracker.
+ghost use Rattle.std.specs.Prelude.{◌≡◌};
+ghost use Rattle.p2p_discovery_directory.specs.Desk.{new_oracle};
+
+use super::{Desk, Message};
+use p2p_base::{Feedback, PublicKey, Set};
+use p2p_flow::{Blocker, Ended, PeerSetUpdate, Polled, Provider, TrackedPeers};
+use std::alloc::{AllocError, Global};
+
+/// Says which peers are in the peer sets, asks for these sets, and blocks peers.
+///
+/// It is a name, whose copies are alike: all that is asked stands at the desk of the tracker's mailbox.
+///
+/// Ports `Oracle` of commonware-p2p's discovery tracker.
+#[derive(Clone, Copy, PartialEq, Eq, Debug)]
+pub struct Oracle<P> {
+    pub(super) local: P,
+    pub(super) max_peers_per_set: usize,
+}
+
+impl<P: PublicKey> Oracle<P> {
+    /// The oracle of the node with the key `local`, whose peer sets have at most `max_peers_per_set` distinct keys, `local`
+    /// counted.
+    pub fn new(local: P, max_peers_per_set: usize) -> Oracle<P>
+        ensures { result ≡ new_oracle local max_peers_per_set }
+    {
+        Oracle {
+            local,
+            max_peers_per_set,
+        }
+    }
+}
+
+impl<P: PublicKey> Provider for Oracle<P> {
+    ghost use Rattle.p2p_discovery_directory.specs.Desk.{provided_by, told_of, asked, answer_taken, subscribed, update_taken};
+    ghost use Rattle.p2p_discovery_directory.specs.OracleLaws.{closed_once_ended as told_closed};
+
+    type PublicKey = P;
+
+    type Way = Desk<P>;
+
+    ghost serves = { λ _ _. Unit {0} };
+
+    ghost provided = { λ _ d. provided_by d };
+
+    ghost told = { λ _ d. told_of d };
+
+    ghost after_peer_set = { λ _ d index. asked d index };
+
+    ghost after_poll_peer_set = { λ _ d n. answer_taken d n };
+
+    ghost after_subscribe = { λ _ d. subscribed d };
+
+    ghost after_poll_update = { λ _ d n. update_taken d n };
+
+    fn peer_set(
+        &mut self,
+        alloc: Global,
+        way: &mut Desk<P>,
+        id: u64,
+    ) -> Result<(u64, Feedback), AllocError> {
+        let _ = alloc;
+        way.ask(id)
+    }
+
+    fn poll_peer_set(&mut self, way: &mut Desk<P>, ticket: u64) -> Polled<Option<TrackedPeers<P>>> {
+        way.take_answer(ticket)
+    }
+
+    fn subscribe(
+        &mut self,
+        alloc: Global,
+        way: &mut Desk<P>,
+    ) -> Result<(u64, Feedback), AllocError> {
+        let _ = alloc;
+        way.subscribe()
+    }
+
+    fn poll_update(
+        &mut self,
+        way: &mut Desk<P>,
+        ticket: u64,
+    ) -> Result<Polled<PeerSetUpdate<P>>, Ended> {
+        if let Some(update) = way.take_update(ticket) {
+            return Ok(Polled::Ready(update));
+        }
+        if way.is_closed() {
+            return Err(Ended);
+        }
+        Ok(Polled::Pending)
+    }
+
+    ghost closed_once_ended = { λ _ d _. told_closed d };
+}
+
+impl<P: PublicKey> Blocker for Oracle<P> {
+    ghost use Rattle.p2p_discovery_directory.specs.Desk.{blocking_by, told_of, with_message, blocked_subscribed, set_taken};
+    ghost use Rattle.p2p_discovery_directory.specs.OracleLaws.{closed_once_ended as told_closed};
+    ghost use Rattle.p2p_discovery_directory.specs.declared.tracker.message.Message.TheVariants as message;
+
+    type PublicKey = P;
+
+    type Way = Desk<P>;
+
+    ghost serves = { λ _ _. Unit {0} };
+
+    ghost blocking = { λ _ d. blocking_by d };
+
+    ghost told = { λ _ d. told_of d };
+
+    ghost after_block = { λ _ d peer. with_message d (message.Block peer) };
+
+    ghost after_blocked = { λ _ d. blocked_subscribed d };
+
+    ghost after_poll_blocked = { λ _ d n. set_taken d n };
+
+    fn block(&mut self, alloc: Global, way: &mut Desk<P>, peer: P) -> Result<Feedback, AllocError> {
+        let _ = alloc;
+        way.put(Message::Block { public_key: peer })
+    }
+
+    fn blocked(&mut self, alloc: Global, way: &mut Desk<P>) -> Result<(u64, Feedback), AllocError> {
+        let _ = alloc;
+        way.subscribe_blocked()
+    }
+
+    fn poll_blocked(&mut self, way: &mut Desk<P>, ticket: u64) -> Result<Polled<Set<P>>, Ended> {
+        if let Some(set) = way.take_set(ticket) {
+            return Ok(Polled::Ready(set));
+        }
+        if way.is_closed() {
+            return Err(Ended);
+        }
+        Ok(Polled::Pending)
+    }
+
+    ghost closed_once_ended = { λ _ d _. told_closed d };
+}
