@@ -6,5 +6,6 @@ pub mod Presets
 pub mod Ready
 pub mod Receiving
 pub mod Sending
+pub mod Sizing
 pub mod Sparing
 pub mod Spawning

@@ -4,6 +4,7 @@
 mod config;
 pub mod peer;
 mod preset;
+mod sizing;
 pub mod spawner;
 
 pub use config::{Bootstrapper, Config};
