@@ -1,9 +1,12 @@
-"""Proves and builds the program of a benchmark, a crate of a repository of its own under build/bench, so that the gate need not."""
+"""Proves and builds the program of a benchmark, a crate of a repository of its own under build/bench, so that the gate need not; and measures
+a program."""
 import os
 import shutil
 import subprocess
+import sys
 
 TOP = os.path.join(os.path.dirname(os.path.abspath(__file__)), '..')
+RUNS = 9
 
 
 def build(name, below, uses, words=()):
@@ -21,3 +24,16 @@ def build(name, below, uses, words=()):
         out.write(f'{name}: {" ".join(uses)}\n')
     subprocess.run(['rt', 'run', '--', *words], cwd=program, stdout=subprocess.DEVNULL, check=True)
     return os.path.join(program, 'out', name)
+
+
+def measure(words):
+    """Returns the least processor seconds of some runs, and what was written."""
+    least = float('inf')
+    for _ in range(RUNS):
+        child = subprocess.Popen(words, stdin=subprocess.DEVNULL, stdout=subprocess.PIPE)
+        text = child.stdout.read()
+        _, status, used = os.wait4(child.pid, 0)
+        if status != 0:
+            sys.exit(f'{words[0]} ended with {status}')
+        least = min(least, used.ru_utime + used.ru_stime)
+    return least, text
