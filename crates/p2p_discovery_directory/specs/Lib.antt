@@ -2,17 +2,14 @@ pub mod Allows
 pub mod Answering
 pub mod AsLookup
 pub mod Asking
-pub mod Desk
 pub mod DialList
 pub mod Gossip
 pub mod Infos
 pub mod Laws
 pub mod Listed
-pub mod OracleLaws
 pub mod Plain
 pub mod PlainAnswering
 pub mod Putting
-pub mod Questions
 pub mod Reserved
 pub mod Served
 pub mod Stepping

@@ -6,6 +6,5 @@ pub mod Presets
 pub mod Ready
 pub mod Receiving
 pub mod Sending
-pub mod Sizing
 pub mod Sparing
 pub mod Spawning

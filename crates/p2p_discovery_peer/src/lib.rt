@@ -4,7 +4,6 @@
 mod config;
 pub mod peer;
 mod preset;
-mod sizing;
 pub mod spawner;
 
 pub use config::{Bootstrapper, Config};
