@@ -8,7 +8,7 @@ use Rattle.p2p_log.specs.declared.queue.Queue.TheVariants as queue
 use Rattle.p2p_log.specs.declared.item.Envelope.{Envelope}
 use Rattle.p2p_log.specs.declared.entry.Entry.{Entry}
 use Rattle.p2p_log.specs.QueueCode.{same_queue}
-use Rattle.p2p_log_rules.specs.Facts.{registers_at, capacity_in, rates, rate_in, sum_capacities}
+use Rattle.p2p_log_rules.specs.Facts.{registers_at, channels, capacity_in, rates, rate_in, sum_capacities}
 pub use Rattle.p2p_log_rules.proofs.Channels.{channels-append, channels-kept}
 use Rattle.p2p_net_queues.specs.Lines.{HoldsLines}
 use Rattle.p2p_net_queues.proofs.Holding.{holds_frame}

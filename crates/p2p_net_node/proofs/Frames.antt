@@ -17,7 +17,7 @@ use Rattle.p2p_log.specs.declared.event.Act.{Act}
 use Rattle.p2p_log.specs.declared.event.Act.TheVariants as act
 use Rattle.p2p_log.specs.Lines.{live, line, stands_in}
 use Rattle.p2p_log_rules.specs.Connections.{is_done, begins, is_begun, ends_connection}
-use Rattle.p2p_log_rules.specs.Facts.{stops, turns, is_stopped, registers_at, with_capacity}
+use Rattle.p2p_log_rules.specs.Facts.{stops, turns, is_stopped, registers_at, with_capacity, taken}
 use Rattle.p2p_log_rules.proofs.Channels.{is_stopped-kept}
 use Rattle.p2p_log_rules.proofs.Families.{kinds_of, are_apart}
 use Rattle.p2p_log_rules.proofs.Spawning.{connections_of-unmade}
