@@ -1,5 +1,6 @@
 pub mod Acted
 pub mod Answers
+pub mod Ascending
 pub mod AttemptTellings
 pub mod Attempts
 pub mod Bools
