@@ -1,6 +1,5 @@
 pub mod Acted
 pub mod Answers
-pub mod Ascending
 pub mod AttemptTellings
 pub mod Attempts
 pub mod Bools
