@@ -59,7 +59,6 @@ pub mod Following
 pub mod FrameLaw
 pub mod GoingOn
 pub mod Gone
-pub mod GrantPuts
 pub mod Granting
 pub mod HandedSides
 pub mod Halves

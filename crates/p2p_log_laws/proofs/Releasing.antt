@@ -19,7 +19,7 @@ use Rattle.p2p_log_laws.specs.Releasing.{EndsItsHolder, IsReleasedAsItEnds, Each
 use Rattle.p2p_log_laws.proofs.NodeGrants.{each_node_turn}
 use Rattle.p2p_log_laws.proofs.Turns.{one_holder_at}
 use Rattle.p2p_log_laws.proofs.Weighing.{weight, weight-placed}
-use Rattle.p2p_log_laws.proofs.GrantPuts.{granted_is_put}
+use Rattle.p2p_log_laws.proofs.NodeWeighs.{granted_is_put}
 use Rattle.p2p_log_laws.proofs.Prefixes.{entry_due}
 
 -- what passes is counted
