@@ -24,9 +24,7 @@ use Rattle.p2p_log_rules.specs.Facts.{is_stopped, channels, capacity_for}
 use Rattle.p2p_log.specs.Copies.{carries_copy, copies_of}
 use Rattle.p2p_log_rules.specs.declared.row.Row.{Row}
 use Rattle.p2p_log_rules.specs.Effect
-use Rattle.p2p_log_rules.specs.Effect.{entry_of}
 use Rattle.p2p_log.proofs.Each.{Each-always, Each-map}
-use Rattle.p2p_log_rules.specs.Moves.{Moves}
 use Rattle.p2p_log_rules.proofs.Moves.{one_taken}
 use Rattle.p2p_log.proofs.Queues.{same_queue-refl}
 use Rattle.p2p_log_laws.proofs.Reaching.{reads, writes}

@@ -1,9 +1,8 @@
 -- A row that empties queues: nothing is left there, other queues stay, and each copy has one end.
-use Rattle.std.proofs.Common.{◌≡◌, ℕ, Bool, true, false, List, [], ◌∷◌, ◌++◌, inl, inr, length, map, refl, ap, sym, subst, ◌∙◌, arith}
-use Rattle.std.specs.Prelude.{filter, flat_map, not, ◌||◌, count_by, Option}
-use Rattle.std.specs.List.{AllByRecursion as Each, list_any}
+use Rattle.std.proofs.Common.{◌≡◌, ℕ, false, List, [], ◌∷◌, ◌++◌, length, map, ap, sym, subst, ◌∙◌, arith}
+use Rattle.std.specs.Prelude.{filter, flat_map, count_by, Option}
+use Rattle.std.specs.List.{AllByRecursion as Each}
 use Rattle.std.proofs.lemmas.List.{map-append}
-use Rattle.p2p_log_rules.proofs.Bools.{or_true}
 use Rattle.p2p_log.specs.declared.queue.Queue.{Queue}
 use Rattle.p2p_log.specs.declared.item.Item.{Item}
 use Rattle.p2p_log.specs.declared.item.Envelope.{Envelope}
@@ -14,16 +13,17 @@ use Rattle.p2p_log.specs.declared.event.Event.{Event}
 use Rattle.p2p_log.specs.QueueCode.{same_queue}
 use Rattle.p2p_log.specs.Copies.{carries, carries_copy, ends_copy}
 use Rattle.p2p_log.specs.Drained.{drained}
-use Rattle.p2p_log.specs.Lines.{name_of, same_name, ended_item, stays, placed, live, stands_in, line}
+use Rattle.p2p_log.specs.Lines.{name_of, ended_item, stays, placed, live, stands_in, line}
 use Rattle.p2p_log.specs.Sending.{Sending, keys_sent}
 use Rattle.p2p_log_rules.specs.declared.row.Row.{Row}
 use Rattle.p2p_log_rules.specs.Effect.{entry_of, goes_to}
 use Rattle.p2p_log_rules.specs.Moves.{Moves}
-use Rattle.p2p_log.proofs.Each.{Has, Each-from_has, Each-weaker}
-use Rattle.p2p_log.proofs.Filters.{filter-none, filter-swap}
+use Rattle.p2p_log.proofs.Each.{Each-weaker}
+use Rattle.p2p_log.proofs.Filters.{filter-swap}
 use Rattle.p2p_log.proofs.Lines.{filter_stays-append}
-use Rattle.p2p_log.proofs.Names.{AreApart-live_from, same_name-refl}
+use Rattle.p2p_log.proofs.Names.{AreApart-live_from}
 use Rattle.p2p_log.proofs.Taken.{drained_taken, Each-drained}
+use Rattle.p2p_log_rules.proofs.Left.{line_gone}
 use Rattle.p2p_log_rules.proofs.Moves.{all_end-gone, goes_moved, kept, line-after, line-left}
 use Rattle.p2p_log_laws.specs.BulkEnds.{Empties, NothingIsLeft, OthersAreLeft, EachStillEndsOnce}
 use Rattle.p2p_log_laws.proofs.Balance.{balance_kept}
@@ -31,21 +31,6 @@ use Rattle.p2p_log_laws.proofs.Bulk.{all_end-counted}
 use Rattle.p2p_log_laws.proofs.Shape.{IsBalanced, accepts, accepts-none}
 
 -- ---- what is left of what was drained
-
-named_any : (name : ℕ × ℕ) (ys : List Envelope) (y : Envelope) → Has ys y → name_of y ≡ name → list_any (same_name name) (map name_of ys) ≡ true
-named_any name [] y h e = absurd h
-named_any name (z ∷ ys) y h e = elim h [
-  | inl is ↦ ap (λ b. b || list_any (same_name name) (map name_of ys)) (ap (same_name name) (ap name_of is ∙ e) ∙ same_name-refl name)
-  | inr l ↦ ap (λ b. same_name name (name_of z) || b) (named_any name ys y l e) ∙ or_true (same_name name (name_of z))
-]
-
-all_gone : (ys : List Envelope) → filter (stays (map name_of ys)) ys ≡ []
-all_gone ys =
-    filter-none (stays (map name_of ys)) ys
-    (Each-from_has (λ (y : Envelope). stays (map name_of ys) y ≡ false) ys (λ y h. ap not (named_any (name_of y) ys y h refl)))
-
-pub line_gone : (xs : List Envelope) (q : Queue) → filter (stands_in q) (filter (stays (map name_of (filter (stands_in q) xs))) xs) ≡ []
-line_gone xs q = filter-swap (stands_in q) (stays (map name_of (filter (stands_in q) xs))) xs ∙ all_gone (filter (stands_in q) xs)
 
 -- a queue in which nothing stands has nothing when more goes
 still_none : (gone : List (ℕ × ℕ)) (xs : List Envelope) (q : Queue) → filter (stands_in q) xs ≡ [] → filter (stands_in q) (filter (stays gone) xs) ≡ []

@@ -19,7 +19,7 @@ use Rattle.p2p_log.proofs.Queues.{same_queue-refl}
 use Rattle.p2p_log_rules.specs.Connections.{ends_connection, is_ended}
 use Rattle.p2p_log_rules.specs.Effect.{effect, entry_of, row}
 use Rattle.p2p_log_rules.specs.Spawning.{Spawned, connections_of}
-use Rattle.p2p_log_rules.proofs.Connections.{is_ended-append, is_ended-none, half_parts, is_live}
+use Rattle.p2p_log_rules.proofs.Connections.{is_ended-append, is_ended-none}
 use Rattle.p2p_log_rules.proofs.Spawning.{connections_of-late}
 use Rattle.p2p_log_rules.proofs.Moves.{one_taken, first_has}
 use Rattle.p2p_log_laws.specs.Grants.{one}

@@ -1,5 +1,5 @@
 -- A line of which all goes is empty.
-use Rattle.std.proofs.Common.{◌≡◌, ℕ, Bool, true, false, List, [], ◌∷◌, ◌++◌, map, length, inl, inr, refl, ap, ◌∙◌}
+use Rattle.std.proofs.Common.{◌≡◌, true, false, List, [], ◌∷◌, ◌++◌, map, length, inl, inr, ap, ◌∙◌}
 use Rattle.std.specs.Prelude.{◌||◌, not, filter}
 use Rattle.std.specs.List.{list_any, AllByRecursion as Each}
 use Rattle.p2p_log.specs.declared.queue.Queue.{Queue}

@@ -61,7 +61,7 @@ use Rattle.p2p_log_laws.proofs.KeptKnown.{IsFree, IsFit, Knows, knows_none, know
 use Rattle.p2p_log_laws.proofs.Prefixes.{lawful_at_end}
 use Rattle.p2p_log_laws.proofs.TrackerMoves.{served_moves, unblocked_moves}
 use Rattle.p2p_log_laws.proofs.Weighing.{taken_items}
-use Rattle.p2p_log_laws.proofs.Words.{IsWord, IsOf, word_of}
+use Rattle.p2p_log_laws.proofs.Words.{IsWord, word_of}
 use Rattle.p2p_log_rules.proofs.Steps.{steps_tracker}
 
 -- ---- keys, and blocks that have ended

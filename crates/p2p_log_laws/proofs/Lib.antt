@@ -29,6 +29,7 @@ pub mod CountBelow
 pub mod Delivering
 pub mod DialerGrants
 pub mod DialerShape
+pub mod Draining
 pub mod DropShape
 pub mod Dropped
 pub mod Drops
@@ -59,6 +60,7 @@ pub mod Following
 pub mod FrameLaw
 pub mod GoingOn
 pub mod Gone
+pub mod GrantPuts
 pub mod Granting
 pub mod HandedSides
 pub mod Halves

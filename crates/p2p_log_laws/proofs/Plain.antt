@@ -19,7 +19,6 @@ use Rattle.p2p_log.specs.QueueCode.{same_queue}
 use Rattle.p2p_log.proofs.Each.{Each-weaker, count_by-none}
 use Rattle.p2p_log_rules.specs.declared.row.Row.{Row}
 use Rattle.p2p_log_rules.specs.declared.row.Half.{Half}
-use Rattle.p2p_log_rules.specs.Attempting.{attempts_of}
 use Rattle.p2p_log_rules.specs.Connections.{half_at}
 use Rattle.p2p_log_rules.specs.Dropping.{LinkEnd, dialing_end, arriving_end, half_end}
 use Rattle.p2p_log_rules.specs.Handshakes.{peer_at}

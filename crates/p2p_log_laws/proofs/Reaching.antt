@@ -15,7 +15,6 @@ use Rattle.p2p_log.specs.Lines.{stands_in, line}
 use Rattle.p2p_log.proofs.Each.{Each-append, Each-weaker}
 use Rattle.p2p_log_rules.specs.declared.row.Half.{Half}
 use Rattle.p2p_log_rules.specs.declared.row.Row.{Row}
-use Rattle.p2p_log_rules.specs.Attempting.{attempts_of}
 use Rattle.p2p_log_rules.specs.Connections.{half_at}
 use Rattle.p2p_log_rules.specs.Dropping.{LinkEnd, other_side, dialing_end, arriving_end, half_end}
 use Rattle.p2p_log_rules.specs.Effect.{entry_of, goes_to}

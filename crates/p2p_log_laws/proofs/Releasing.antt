@@ -1,6 +1,6 @@
 -- The release of a grant is put by the entry in which its holder ends.
-use Rattle.std.proofs.Common.{◌≡◌, ℕ, ◌+◌, ◌≤◌, Bool, true, false, cond, List, [], ◌∷◌, ◌++◌, length, take, Some, ◌⊎◌, inl, inr, ap, sym, subst, ◌∙◌, refl, arith}
-use Rattle.std.specs.Prelude.{◌&&◌, ◌||◌, count_by, filter, slice_get}
+use Rattle.std.proofs.Common.{◌≡◌, ℕ, ◌+◌, ◌≤◌, Bool, true, false, cond, List, [], ◌∷◌, ◌++◌, length, take, inl, inr, ap, sym, subst, ◌∙◌, refl, arith}
+use Rattle.std.specs.Prelude.{◌||◌, count_by, filter}
 use Rattle.std.specs.List.{list_any}
 use Rattle.std.proofs.lemmas.Bool.{false≢true}
 use Rattle.std.proofs.lemmas.List.Sums.{sum_by-append, sum_by-cons}
@@ -15,11 +15,11 @@ use Rattle.p2p_log_rules.specs.Effect.{effect}
 use Rattle.p2p_log_rules.specs.Lawful.{IsLawful}
 use Rattle.p2p_log_laws.specs.Grants.{one, Granting, is_held, is_stopped, Hands, Halts, EachIsTurn}
 use Rattle.p2p_log_laws.specs.NodeGrants.{put_of, puts_grant, puts_release, beginners_of, holders_of, waiting_of, granting}
-use Rattle.p2p_log_laws.specs.Releasing.{EndsItsHolder, IsReleasedAsItEnds, EachIsReleasedAsItEnds}
+use Rattle.p2p_log_laws.specs.Releasing.{IsReleasedAsItEnds, EachIsReleasedAsItEnds}
 use Rattle.p2p_log_laws.proofs.NodeGrants.{each_node_turn}
 use Rattle.p2p_log_laws.proofs.Turns.{one_holder_at}
 use Rattle.p2p_log_laws.proofs.Weighing.{weight, weight-placed}
-use Rattle.p2p_log_laws.proofs.NodeWeighs.{granted_is_put}
+use Rattle.p2p_log_laws.proofs.GrantPuts.{granted_is_put}
 use Rattle.p2p_log_laws.proofs.Prefixes.{entry_due}
 
 -- what passes is counted

@@ -42,7 +42,7 @@ use Rattle.p2p_log_laws.proofs.Prefixes.{lawful_at_end}
 use Rattle.p2p_log_laws.proofs.Shape.{Origin, Moved-origins}
 use Rattle.p2p_log_laws.proofs.Turns.{one_holder}
 use Rattle.p2p_log_laws.proofs.Words as words
-use Rattle.p2p_log_laws.proofs.Words.{count_has, get_has, placed_has, waits, is_linked, holds, IsWord, IsCurrent, Reserved, IsOf, reserved_first}
+use Rattle.p2p_log_laws.proofs.Words.{count_has, get_has, placed_has, waits, is_linked, holds, IsWord, IsCurrent, Reserved, reserved_first}
 use Rattle.p2p_log_rules.proofs.Steps.{steps_tracker}
 
 -- a connection that is known is one that has not ended

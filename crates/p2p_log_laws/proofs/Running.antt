@@ -1,7 +1,7 @@
 -- What waits for a handshake waits while it runs.
 use Rattle.std.proofs.Common.{◌≡◌, ℕ, ◌+◌, Bool, true, false, cond, List, [], ◌∷◌, ◌++◌, map, take, length, Option, Some, None, ◌⊎◌, inl, inr, refl, ap, sym, subst, ◌∙◌, eqb-true}
 use Rattle.std.specs.Prelude.{◌==◌, ◌&&◌, ◌||◌, not, filter, flat_map}
-use Rattle.std.specs.List.{list_any, AllByRecursion as Each}
+use Rattle.std.specs.List.{AllByRecursion as Each}
 use Rattle.std.specs.Option.{option_map}
 use Rattle.std.proofs.lemmas.Bool.{false≢true}
 use Rattle.p2p_base.specs.declared.key.Key.{Key}
@@ -10,7 +10,6 @@ use Rattle.p2p_tracker_calls.specs.declared.call.Call.{Call}
 use Rattle.p2p_tracker_calls.specs.declared.call.Call.TheVariants as call
 use Rattle.p2p_tracker_calls.specs.BlockedKeys.{due_keys}
 use Rattle.p2p_tracker_calls.specs.Rules.{Rules}
-use Rattle.p2p_tracker_calls.specs.Allows.{allows_listen}
 use Rattle.p2p_log.specs.declared.config.Config.{Config}
 use Rattle.p2p_log.specs.declared.queue.Queue.{Queue}
 use Rattle.p2p_log.specs.declared.queue.Queue.TheVariants as queue
@@ -27,14 +26,13 @@ use Rattle.p2p_log.specs.declared.event.Event.{Event}
 use Rattle.p2p_log.specs.Lines.{name_of, goes, placed, stays, stands_in, live_from, live, line}
 use Rattle.p2p_log.specs.QueueCode.{same_queue}
 use Rattle.p2p_log.proofs.Each.{Has, Has-after, Has-first, Has-flat_map, Has-kept, Each-append, Each-filter, Each-has, Each-from_has, Each-weaker}
-use Rattle.p2p_log_rules.specs.declared.row.Half.{Half}
 use Rattle.p2p_log_rules.specs.declared.row.ListeningEnd.{ListeningEnd}
 use Rattle.p2p_log_rules.specs.declared.row.ListeningEnd.TheVariants as listening
 use Rattle.p2p_log_rules.specs.declared.row.Opening.{Opening}
 use Rattle.p2p_log_rules.specs.declared.row.Row.{Row}
 use Rattle.p2p_log_rules.specs.Attempting.{Attempt, attempts_of}
 use Rattle.p2p_log_rules.specs.Connections.{is_ended}
-use Rattle.p2p_log_rules.specs.Dropping.{LinkEnd, dropping, handshake_step_row}
+use Rattle.p2p_log_rules.specs.Dropping.{handshake_step_row}
 use Rattle.p2p_log_rules.specs.Effect.{effect, entry_of, row, goes_to, send_step_row, recv_step_row}
 use Rattle.p2p_log_rules.specs.Facts.{is_up, taken}
 use Rattle.p2p_log_rules.specs.Connections.{half_at}
@@ -59,7 +57,6 @@ use Rattle.p2p_log_laws.proofs.DropShape.{each_dropping}
 use Rattle.p2p_log_laws.proofs.Heeded.{Each-heeded}
 use Rattle.p2p_log_laws.proofs.HalfSteps.{send_is, receive_is, IsStep}
 use Rattle.p2p_log_laws.proofs.Reaching.{writes}
-use Rattle.p2p_log_laws.proofs.Shape.{Shape}
 use Rattle.p2p_log_laws.proofs.Shapes.{row_shape}
 use Rattle.p2p_log_laws.proofs.TrackerPuts.{EachKind, each_unblocked, each_asked, each_connected}
 

@@ -1,5 +1,6 @@
 pub mod Acted
 pub mod Answers
+pub mod Ascending
 pub mod AttemptTellings
 pub mod Attempts
 pub mod Bools
@@ -21,6 +22,7 @@ pub mod HandshakeTook
 pub mod Handshakes
 pub mod Ignoring
 pub mod Lawful
+pub mod Left
 pub mod LinkTells
 pub mod Links
 pub mod Listening

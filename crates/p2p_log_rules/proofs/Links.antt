@@ -1,6 +1,6 @@
 -- The links over which keys are exchanged, and what has their listening ends, after one more entry.
 use Rattle.std.proofs.Common.{◌≡◌, ℕ, ◌+◌, ◌≤◌, Bool, true, false, cond, List, [], ◌∷◌, ◌++◌, length, Option, Some, None, ◌⊎◌, inl, inr, refl, ap, sym, subst, ◌∙◌, arith, eq-eqb, eqb-true, length-append}
-use Rattle.std.specs.Prelude.{◌==◌, ◌&&◌, ◌||◌, unwrap_or, flat_map, is_some}
+use Rattle.std.specs.Prelude.{◌==◌, ◌&&◌, unwrap_or, flat_map, is_some}
 use Rattle.std.specs.List.{list_any}
 use Rattle.std.specs.Option.{option_map}
 use Rattle.std.proofs.lemmas.Option.{same_Some}
@@ -27,7 +27,7 @@ use Rattle.p2p_log_rules.specs.Links.{opens_exchange, openings_of, has_listening
 use Rattle.p2p_log_rules.specs.Puts.{broke_off}
 use Rattle.p2p_log_rules.specs.Tellings.{Telling, last_or}
 use Rattle.p2p_log_rules.specs.Tellings as telling
-use Rattle.p2p_log_rules.specs.Told.{messages_stop, arrivals_stop, attempts_in, attempt_stops, handshakes_in, handshake_stops, connections_in, connection_stops, stop_tells, when, done_tells, link_tells, admitted_as, begun_tells, arrival_tells, handshake_tells, gates_tell, heard_tells, tells, told}
+use Rattle.p2p_log_rules.specs.Told.{messages_stop, arrivals_stop, attempts_in, attempt_stops, handshakes_in, handshake_stops, connections_in, connection_stops, when, done_tells, link_tells, admitted_as, begun_tells, arrival_tells, handshake_tells, gates_tell, heard_tells, tells, told}
 use Rattle.p2p_log_rules.proofs.Channels.{IsStopOf, tells_stop, by_stop}
 use Rattle.p2p_log_rules.proofs.Families.{kind, kinds_of, has, are_apart}
 use Rattle.p2p_log_rules.proofs.Ignoring.{reads_some, last_or-none, unwrap_named, unwrap_at, by_entries}

@@ -1,22 +1,20 @@
 -- What the stop of a node leaves of its attempts and connections: none.
-use Rattle.std.proofs.Common.{◌≡◌, ℕ, Bool, true, false, cond, List, [], ◌∷◌, ◌++◌, Option, Some, None, ◌⊎◌, inl, inr, refl, ap, sym, subst, ◌∙◌, arith, eq-eqb, eqb-true}
-use Rattle.std.specs.Prelude.{◌==◌, ◌&&◌, ◌||◌, not, filter, flat_map, is_some, unwrap_or}
+use Rattle.std.proofs.Common.{◌≡◌, ℕ, Bool, true, false, cond, List, [], ◌∷◌, ◌++◌, Option, Some, None, ◌⊎◌, inl, inr, refl, ap, sym, subst, ◌∙◌, arith, eqb-true}
+use Rattle.std.specs.Prelude.{◌==◌, ◌&&◌, ◌||◌, not, flat_map, is_some, unwrap_or}
 use Rattle.std.specs.List.{list_any}
 use Rattle.std.specs.Option.{option_map}
-use Rattle.std.proofs.lemmas.Bool.{and_parts, false≢true}
+use Rattle.std.proofs.lemmas.Bool.{false≢true}
 use Rattle.std.proofs.lemmas.Bool.Decides.{nat_tests}
-use Rattle.std.proofs.lemmas.Option.{same_Some}
-use Rattle.p2p_base.specs.declared.key.Key.{Key}
 use Rattle.p2p_log.specs.declared.config.Config.{Config}
 use Rattle.p2p_log.specs.declared.entry.Entry.{Entry}
-use Rattle.p2p_log.proofs.Each.{Has, Has-after, Has-first, Has-kept}
+use Rattle.p2p_log.proofs.Each.{Has, Has-after, Has-kept}
 use Rattle.p2p_log_rules.specs.Attempting.{Attempt, DialRules, dial_rules_at, attempt_since, attempt_by_last, attempt_in, attempts_of}
 use Rattle.p2p_log_rules.specs.Connections.{is_over, is_ended, live_connection}
-use Rattle.p2p_log_rules.specs.Halves.{makes_connection, connection_in}
+use Rattle.p2p_log_rules.specs.Halves.{makes_connection}
 use Rattle.p2p_log_rules.specs.Spawning.{Spawned, connections_of}
 use Rattle.p2p_log_rules.specs.Tellings.{Telling, Last, last_told, last_or}
 use Rattle.p2p_log_rules.specs.Tellings as telling
-use Rattle.p2p_log_rules.specs.Told.{Begun, begins, ends, begins_attempt, attempts_in, made_in, connections_in, stop_tells, tells, told}
+use Rattle.p2p_log_rules.specs.Told.{Begun, begins, ends, begins_attempt, attempts_in, made_in, connections_in, stop_tells, told}
 use Rattle.p2p_log_rules.proofs.Attempts.{is_begun, begun_or, attempt_one, attempt_after, attempt_told, attempts_of-append}
 use Rattle.p2p_log_rules.proofs.Channels.{IsStopOf, tells_stop}
 use Rattle.p2p_log_rules.proofs.Bools.{or_true}
