@@ -13,7 +13,7 @@ use Rattle.p2p_net_channels.specs.Stands.{AdmitsNone, SendsNone, ChannelsStand}
 use Rattle.p2p_net_channels.specs.declared.channels.Channels.{Channels}
 use Rattle.p2p_net_channels.proofs.Changes.{channels-kept}
 use Rattle.p2p_net_channels.proofs.Checks.{checks_kept}
-use Rattle.p2p_net_channels.proofs.Quotas.{same_rates, quota_stays}
+use Rattle.p2p_net_channels.proofs.Quotas.{rates-kept, same_rates, quota_stays}
 use Rattle.p2p_net_channels.proofs.Readers.{closed_more}
 use Rattle.p2p_net_channels.proofs.Sending.{senders_stay}
 
@@ -28,8 +28,8 @@ channels_closed configs log e n c ch s acts done admits sends waits =
       total = s.total ∙ ap sum_capacities (sym (channels-kept configs log e n none));
       room = s.room;
       waits = waits;
-      quotas = λ d. same_rates configs log e n d (at ch.quotas d) none (quota_stays configs log e n d (rate_in (rates log n) d) (at ch.quotas d) (s.quotas d) (λ conn. admits conn d));
-      senders = senders_stay configs log e n ch.senders s.senders none sends;
+      quotas = λ d. same_rates configs log e n d (at ch.quotas d) (rates-kept configs log e n none) (quota_stays configs log e n d (rate_in (rates log n) d) (at ch.quotas d) (s.quotas d) (λ conn. admits conn d));
+      senders = senders_stay configs log e n ch.senders s.senders (rates-kept configs log e n none) sends;
       checks = checks_kept log e n ch.checks s.checks sends.checks;
       closed = closed_more log e n c ch s.closed acts done;
     }

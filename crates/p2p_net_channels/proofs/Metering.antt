@@ -21,7 +21,7 @@ use Rattle.p2p_net_channels.specs.Stands.{QuotaStands, SendsNone, ClosesNone, Ch
 use Rattle.p2p_net_channels.specs.declared.channels.Channels.{Channels}
 use Rattle.p2p_net_channels.proofs.Checks.{checks_kept}
 use Rattle.p2p_net_channels.proofs.Changes.{channels-kept}
-use Rattle.p2p_net_channels.proofs.Quotas.{quota_stays, same_rates}
+use Rattle.p2p_net_channels.proofs.Quotas.{quota_stays, rates-kept, same_rates}
 use Rattle.p2p_net_channels.proofs.Readers.{closed_stay}
 use Rattle.p2p_net_channels.proofs.Sending.{senders_stay}
 
@@ -73,8 +73,8 @@ channels_metered configs log e n c conn now ch w s none late is_then adds sends 
   total = s.total ∙ ap sum_capacities (sym (channels-kept configs log e n none));
   room = s.room;
   waits = waits;
-  quotas = λ q. same_rates configs log e n q (at (checked_at nat_cmp ch.quotas c conn now) q) none (quotas_checked configs log e n c conn now late is_then ch s.quotas adds q);
-  senders = senders_stay configs log e n ch.senders s.senders none sends;
+  quotas = λ q. same_rates configs log e n q (at (checked_at nat_cmp ch.quotas c conn now) q) (rates-kept configs log e n none) (quotas_checked configs log e n c conn now late is_then ch s.quotas adds q);
+  senders = senders_stay configs log e n ch.senders s.senders (rates-kept configs log e n none) sends;
   checks = checks_kept log e n ch.checks s.checks sends.checks;
   closed = closed_stay log e n ch s.closed closes;
 }

@@ -68,11 +68,11 @@ quota_stays configs log e n c (Some rate) (Some kept) h none =
 quota_stays configs log e n c None (Some kept) h none = absurd h
 quota_stays configs log e n c (Some rate) None h none = absurd h
 
--- an entry that registers no channel leaves each its rate
+-- an entry that leaves the rates of the channels leaves each its own
 pub same_rates :
-    (configs : List Config) (log : List Entry) (e : Entry) (n c : ℕ) (o : Option (KeptByKey ℕ)) → registers_at configs n e.event.act ≡ []
+    (configs : List Config) (log : List Entry) (e : Entry) (n c : ℕ) (o : Option (KeptByKey ℕ)) → rates (log ++ e ∷ []) n ≡ rates log n
     → QuotaStands configs (log ++ e ∷ []) n c (rate_in (rates log n) c) o → QuotaStands configs (log ++ e ∷ []) n c (rate_in (rates (log ++ e ∷ []) n) c) o
-same_rates configs log e n c o none h = subst (λ rs. QuotaStands configs (log ++ e ∷ []) n c (rate_in rs c) o) (sym (rates-kept configs log e n none)) h
+same_rates configs log e n c o same h = subst (λ rs. QuotaStands configs (log ++ e ∷ []) n c (rate_in rs c) o) (sym same) h
 
 -- the quota of a channel admits what it does by the log
 pub may_admit_is :

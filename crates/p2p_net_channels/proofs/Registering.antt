@@ -53,12 +53,22 @@ new_capacity old c k d true p absent =
     sym (ap (λ o. elim o [ None ↦ Some k | Some v ↦ Some v ]) none)
 new_capacity old c k d false p absent = elim (old d) as (λ o. o ≡ elim o [ None ↦ None | Some v ↦ Some v ]) [ None ↦ refl | Some v ↦ refl ]
 
-sum_capacities-last : (xs : List (ℕ × ℕ)) (c k : ℕ) → sum_capacities (xs ++ (c, k) ∷ []) ≡ sum_capacities xs + k
+pub sum_capacities-last : (xs : List (ℕ × ℕ)) (c k : ℕ) → sum_capacities (xs ++ (c, k) ∷ []) ≡ sum_capacities xs + k
 sum_capacities-last [] c k = omega arith
 sum_capacities-last (x ∷ xs) c k = let ih = sum_capacities-last xs c k in omega arith
 
 same_key : (c d : ℕ) → is_at (nat_cmp d) c ≡ (d == c)
 same_key c d = grind (arith, nat_tests)
+
+-- a table of capacities with one channel more is the list with that channel last
+pub capacity-last :
+    (m xs : List (ℕ × ℕ)) (c k d : ℕ) → ((j : ℕ) → at m j ≡ capacity_in xs j) → at m c ≡ None
+    → at (insert_entry nat_cmp m c k) d ≡ capacity_in (xs ++ (c, k) ∷ []) d
+capacity-last m xs c k d same absent =
+    lookup-insert_entry c d k m
+    ∙ (ap (λ b. cond b (Some k) (at m d)) (same_key c d)
+    ∙ (new_capacity (at m) c k d (d == c) refl absent
+    ∙ (ap (λ o. elim o [ None ↦ cond (d == c) (Some k) None | Some v ↦ Some v ]) (same d) ∙ sym (lookup-last xs c k d))))
 
 same_number : (n : ℕ) → (n == n) ≡ true
 same_number n = grind (arith, nat_tests)
@@ -115,12 +125,7 @@ channels_registered configs log e n c k rate ch s runs is amount absent room lin
     in
     let more : channels configs (log ++ e ∷ []) n ≡ channels configs log n ++ (c, k) ∷ [] = channels-append configs log e n runs ∙ ap (λ l. channels configs log n ++ l) here in
     record {
-      capacities = λ d.
-          lookup-insert_entry c d k ch.capacities
-          ∙ (ap (λ b. cond b (Some k) (at ch.capacities d)) (same_key c d)
-          ∙ (new_capacity (capacity_at ch) c k d (d == c) refl absent
-          ∙ (ap (λ o. elim o [ None ↦ cond (d == c) (Some k) None | Some v ↦ Some v ]) (s.capacities d)
-          ∙ (sym (lookup-last (channels configs log n) c k d) ∙ ap (λ l. capacity_in l d) (sym more)))));
+      capacities = λ d. capacity-last ch.capacities (channels configs log n) c k d s.capacities absent ∙ ap (λ l. capacity_in l d) (sym more);
       total = ap (λ t. t + k) s.total ∙ (sym (sum_capacities-last (channels configs log n) c k) ∙ ap sum_capacities (sym more));
       room = room;
       waits = λ d. s.waits d ∙ sym (lines d);

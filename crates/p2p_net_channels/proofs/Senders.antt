@@ -32,7 +32,7 @@ use Rattle.p2p_net_channels.specs.Senders.{moment_told, keys_passing, keys_retry
 use Rattle.p2p_net_channels.specs.Stands.{SenderStands, AdmitsNone, ClosesNone, ChannelsStand}
 use Rattle.p2p_net_channels.specs.declared.channels.Channels.{Channels}
 use Rattle.p2p_net_channels.proofs.Changes.{channels-kept}
-use Rattle.p2p_net_channels.proofs.Quotas.{quota_stays, same_rates}
+use Rattle.p2p_net_channels.proofs.Quotas.{quota_stays, rates-kept, same_rates}
 use Rattle.p2p_net_channels.proofs.Readers.{closed_stay}
 use Rattle.p2p_net_channels.proofs.Sending.{sender_stays, same_sender_rates}
 
@@ -207,8 +207,8 @@ module _
       total = s.total ∙ ap sum_capacities (sym (channels-kept configs log e n none));
       room = s.room;
       waits = holds_frame (queue.Channel n) log e ch.waiting s.waits lines;
-      quotas = λ d. same_rates configs log e n d (at ch.quotas d) none (quota_stays configs log e n d (rate_at log n d) (at ch.quotas d) (s.quotas d) (λ conn. admits_none conn d));
-      senders = λ d. same_sender_rates configs log e n d (at senders d) none (stands d);
+      quotas = λ d. same_rates configs log e n d (at ch.quotas d) (rates-kept configs log e n none) (quota_stays configs log e n d (rate_at log n d) (at ch.quotas d) (s.quotas d) (λ conn. admits_none conn d));
+      senders = λ d. same_sender_rates configs log e n d (at senders d) (rates-kept configs log e n none) (stands d);
       checks = checks;
       closed = closed_stay log e n ch s.closed closes_none;
     }

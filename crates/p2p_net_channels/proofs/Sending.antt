@@ -4,7 +4,7 @@ use Rattle.p2p_base.specs.declared.key.Key.{Key}
 use Rattle.p2p_log.specs.declared.config.Config.{Config}
 use Rattle.p2p_log.specs.declared.event.Rate.{Rate}
 use Rattle.p2p_log.specs.declared.entry.Entry.{Entry}
-use Rattle.p2p_log_rules.specs.Facts.{registers_at, rates, rate_in, state_from}
+use Rattle.p2p_log_rules.specs.Facts.{rates, rate_in, state_from}
 use Rattle.p2p_log_rules.specs.Admitting.{rate_at, sent_moments}
 use Rattle.p2p_log_rules.specs.Listening.{quota_of}
 use Rattle.p2p_log_rules.specs.Tracking.{key_cmp}
@@ -14,7 +14,6 @@ use Rattle.p2p_net_queues.specs.Tables.{at}
 use Rattle.p2p_net_queues.proofs.Meters.{meters_frame}
 use Rattle.p2p_net_channels.specs.Channels.{no_channels}
 use Rattle.p2p_net_channels.specs.Stands.{SenderStands, SendsNone}
-use Rattle.p2p_net_channels.proofs.Quotas.{rates-kept}
 
 -- no channels, and no log
 pub senders_new : (n c : ℕ) → SenderStands [] n c (rate_at [] n c) (at no_channels.senders c)
@@ -35,15 +34,15 @@ sender_stays log e n c (Some rate) (Some kept) h same = meters_frame key_cmp log
 sender_stays log e n c None (Some kept) h same = absurd h
 sender_stays log e n c (Some rate) None h same = absurd h
 
--- an entry that registers no channel leaves each its rate
+-- an entry that leaves the rates of the channels leaves each its own
 pub same_sender_rates :
-    (configs : List Config) (log : List Entry) (e : Entry) (n c : ℕ) (o : Option (KeptByKey Key)) → registers_at configs n e.event.act ≡ []
+    (configs : List Config) (log : List Entry) (e : Entry) (n c : ℕ) (o : Option (KeptByKey Key)) → rates (log ++ e ∷ []) n ≡ rates log n
     → SenderStands (log ++ e ∷ []) n c (rate_at log n c) o → SenderStands (log ++ e ∷ []) n c (rate_at (log ++ e ∷ []) n c) o
-same_sender_rates configs log e n c o none h = subst (λ rs. SenderStands (log ++ e ∷ []) n c (rate_in rs c) o) (sym (rates-kept configs log e n none)) h
+same_sender_rates configs log e n c o same h = subst (λ rs. SenderStands (log ++ e ∷ []) n c (rate_in rs c) o) (sym same) h
 
--- an entry that registers no channel, and in which nothing is admitted
+-- and one in which nothing is admitted leaves what the node sent there
 pub senders_stay :
-    (configs : List Config) (log : List Entry) (e : Entry) (n : ℕ) (m : List (ℕ × KeptByKey Key)) → ((c : ℕ) → SenderStands log n c (rate_at log n c) (at m c)) → registers_at configs n e.event.act ≡ [] → SendsNone log e n
+    (configs : List Config) (log : List Entry) (e : Entry) (n : ℕ) (m : List (ℕ × KeptByKey Key)) → ((c : ℕ) → SenderStands log n c (rate_at log n c) (at m c)) → rates (log ++ e ∷ []) n ≡ rates log n → SendsNone log e n
     → (c : ℕ) → SenderStands (log ++ e ∷ []) n c (rate_at (log ++ e ∷ []) n c) (at m c)
-senders_stay configs log e n m stands none sends c =
-    same_sender_rates configs log e n c (at m c) none (sender_stays log e n c (rate_at log n c) (at m c) (stands c) (sends.moments c))
+senders_stay configs log e n m stands same sends c =
+    same_sender_rates configs log e n c (at m c) same (sender_stays log e n c (rate_at log n c) (at m c) (stands c) (sends.moments c))

@@ -2,7 +2,10 @@ pub mod Beginning
 pub mod Changes
 pub mod Dialing
 pub mod Ended
+pub mod Listed
 pub mod Pings
 pub mod Receiving
 pub mod SpawnerChanges
+pub mod SpawnerStop
 pub mod Spawned
+pub mod Stopped

@@ -3,3 +3,4 @@ pub mod Dialing
 pub mod Spawner
 pub mod SpawnerStands
 pub mod Stands
+pub mod Stopping

@@ -10,18 +10,25 @@ use p2p_net_queues::drop_items;
 use std::alloc::{AllocError, Global};
 
 impl Connections {
-    /// What came over a connection and waits for its quota ends untaken, the oldest first, each item with its copies.
+    /// What came over a connection and waits for its quota ends untaken for this cause, the oldest first, each item
+    /// with its copies.
     ///
     /// `Err` only where there is no memory. The items may then be gone and told of to nobody, and its node goes no further.
-    pub fn drop_held(&mut self, alloc: Global, row: &mut Row, conn: u64) -> Result<(), AllocError>
-        ensures row { OnOk result (row.new ≡ record row.old { ends = row.old.ends ++ all_end Cause.ConnectionEnded (waiting self.old.held conn) }) }
+    pub fn drop_held(
+        &mut self,
+        alloc: Global,
+        row: &mut Row,
+        conn: u64,
+        cause: Cause,
+    ) -> Result<(), AllocError>
+        ensures row { OnOk result (row.new ≡ record row.old { ends = row.old.ends ++ all_end cause (waiting self.old.held conn) }) }
         ensures after { OnOk result (self.new ≡ record self.old { held = cleared_at self.old.held conn }) }
     {
         let left = self.held.take_all_at(alloc, conn);
-        drop_items(row, left, Cause::ConnectionEnded)
+        drop_items(row, left, cause)
     }
 
-    /// The router's answers that wait for a connection end untaken, the oldest first.
+    /// The router's answers that wait for a connection end untaken for this cause, the oldest first.
     ///
     /// `Err` only where there is no memory. The answers may then be gone and told of to nobody, and its node goes no further.
     pub fn drop_answers(
@@ -29,12 +36,13 @@ impl Connections {
         alloc: Global,
         row: &mut Row,
         conn: u64,
+        cause: Cause,
     ) -> Result<(), AllocError>
-        ensures row { OnOk result (row.new ≡ record row.old { ends = row.old.ends ++ all_end Cause.ConnectionEnded (waiting self.old.answers conn) }) }
+        ensures row { OnOk result (row.new ≡ record row.old { ends = row.old.ends ++ all_end cause (waiting self.old.answers conn) }) }
         ensures after { OnOk result (self.new ≡ record self.old { answers = cleared_at self.old.answers conn }) }
     {
         let left = self.answers.take_all_at(alloc, conn);
-        drop_items(row, left, Cause::ConnectionEnded)
+        drop_items(row, left, cause)
     }
 
     /// A connection ends: it is kept no longer, and given with the right to connect with its peer, where it is one.

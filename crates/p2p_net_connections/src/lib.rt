@@ -7,6 +7,7 @@ mod ending;
 pub mod holding;
 pub mod pinging;
 mod spawner;
+mod stopping;
 
 pub use connections::{Connection, Connections, Stage};
 pub use pinging::is_past;

@@ -6,3 +6,5 @@ pub mod LeavingListener
 pub mod ListenerChanges
 pub mod ListenerSteps
 pub mod ListeningEnds
+pub mod StandingAttempts
+pub mod Stops

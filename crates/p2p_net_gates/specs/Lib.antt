@@ -4,3 +4,4 @@ pub mod Dialing
 pub mod Handshaking
 pub mod ListenerStands
 pub mod Listening
+pub mod Stopping

@@ -6,8 +6,10 @@ mod attempt;
 mod dialing;
 mod handshake;
 mod listening;
+mod stopping;
 
 pub use attempt::{RunningAttempt, Tried};
 pub use dialing::{Dialed, Dialing, gates_config};
 pub use handshake::HandshakeStep;
 pub use listening::{Listening, Took};
+pub use stopping::Stopped;

@@ -61,7 +61,7 @@ ways l side.Out side.In w = refl
 ways l side.In side.Out w = refl
 ways l side.In side.In w = refl
 
-same_way : (l : Links) (s t : Side) → same_side s t ≡ true → way_of l s ≡ way_of l t
+pub same_way : (l : Links) (s t : Side) → same_side s t ≡ true → way_of l s ≡ way_of l t
 same_way l side.Out side.Out h = refl
 same_way l side.In side.In h = refl
 same_way l side.Out side.In h = cc

@@ -24,7 +24,7 @@ use Rattle.p2p_net_links.specs.Dropping.{dropped_of, with_dropped, is_dropped_at
 use Rattle.p2p_net_links.specs.Links.{way_of, with_way}
 use Rattle.p2p_net_links.specs.Stands.{LinksStand}
 use Rattle.p2p_net_links.specs.declared.links.Links.{Links}
-use Rattle.p2p_net_links.proofs.Changes.{same_link, same_side, OpensNone, opening_kinds, dials_less, cuts_less, openings_unmoved, dialers_kept, openings_kept, cut_kept}
+use Rattle.p2p_net_links.proofs.Changes.{same_link, same_side, same_way, OpensNone, opening_kinds, dials_less, cuts_less, openings_unmoved, dialers_kept, openings_kept, cut_kept}
 use Rattle.p2p_log_rules.proofs.Families.{kinds_of, are_apart}
 use Rattle.p2p_log_rules.proofs.Dropping.{drops_none, drops_of-none, is_end_at, is_dropped-append}
 
@@ -47,7 +47,7 @@ drops_opens_none log e one drops = openings_unmoved log e (opens_by one (drops_o
 
 -- ---- the links as they are then, with this direction in the place of the one that leads to the end
 
-abbrev dropped_with : ℕ → Side → Links → List (ℕ × List Envelope) → Links
+abbrev pub dropped_with : ℕ → Side → Links → List (ℕ × List Envelope) → Links
 dropped_with link s l w = with_dropped (with_way l (other_side s) w) s (insert_entry nat_cmp (dropped_of l s) link tt)
 
 dropped_ways : (l : Links) (s t : Side) (link : ℕ) (w : List (ℕ × List Envelope)) → way_of (dropped_with link s l w) t ≡ cond (same_side (other_side s) t) w (way_of l t)
@@ -56,15 +56,15 @@ dropped_ways l side.Out side.In link w = refl
 dropped_ways l side.In side.Out link w = refl
 dropped_ways l side.In side.In link w = refl
 
-dropped_dialers : (l : Links) (s : Side) (link : ℕ) (w : List (ℕ × List Envelope)) → (dropped_with link s l w).dialers ≡ l.dialers
+pub dropped_dialers : (l : Links) (s : Side) (link : ℕ) (w : List (ℕ × List Envelope)) → (dropped_with link s l w).dialers ≡ l.dialers
 dropped_dialers l side.Out link w = refl
 dropped_dialers l side.In link w = refl
 
-dropped_openings : (l : Links) (s : Side) (link : ℕ) (w : List (ℕ × List Envelope)) → (dropped_with link s l w).openings ≡ l.openings
+pub dropped_openings : (l : Links) (s : Side) (link : ℕ) (w : List (ℕ × List Envelope)) → (dropped_with link s l w).openings ≡ l.openings
 dropped_openings l side.Out link w = refl
 dropped_openings l side.In link w = refl
 
-dropped_cut : (l : Links) (s : Side) (link : ℕ) (w : List (ℕ × List Envelope)) → (dropped_with link s l w).cut ≡ l.cut
+pub dropped_cut : (l : Links) (s : Side) (link : ℕ) (w : List (ℕ × List Envelope)) → (dropped_with link s l w).cut ≡ l.cut
 dropped_cut l side.Out link w = refl
 dropped_cut l side.In link w = refl
 
@@ -77,7 +77,7 @@ no_more : (b : Bool) (o : Option (Unit {0})) → is_some o ≡ ((b && false) || 
 no_more true o = refl
 no_more false o = refl
 
-noted : (l : Links) (s t : Side) (link j : ℕ) (w : List (ℕ × List Envelope)) → is_dropped_at (dropped_with link s l w) t j ≡ (((j == link) && is_side t s) || is_dropped_at l t j)
+pub noted : (l : Links) (s t : Side) (link j : ℕ) (w : List (ℕ × List Envelope)) → is_dropped_at (dropped_with link s l w) t j ≡ (((j == link) && is_side t s) || is_dropped_at l t j)
 noted l side.Out side.Out link j w = ap (λ (o : Option (Unit {0})). is_some o) (at-inserted link j tt l.dropped_outward) ∙ one_more (j == link) true (at l.dropped_outward j)
 noted l side.In side.In link j w = ap (λ (o : Option (Unit {0})). is_some o) (at-inserted link j tt l.dropped_inward) ∙ one_more (j == link) true (at l.dropped_inward j)
 noted l side.Out side.In link j w = no_more (j == link) (at l.dropped_inward j)
@@ -91,6 +91,18 @@ or_swap false false = refl
 
 is_dropped-one : (log : List Entry) (e : Entry) (one : LinkEnd) → drops_of log e ≡ one ∷ [] → (link : ℕ) (s : Side) → is_dropped (log ++ e ∷ []) link s ≡ (is_dropped log link s || (is_end_at link s one || false))
 is_dropped-one log e one drops link s = is_dropped-append log e link s ∙ ap (λ l. is_dropped log link s || list_any (is_end_at link s) l) drops
+
+-- ---- what is in flight then: nothing towards the end, and elsewhere what was
+
+pub dropped_waits : (l : Links) (s t : Side) (link j : ℕ) (w : List (ℕ × List Envelope)) → ((i : ℕ) → waiting w i ≡ cond (is_at (nat_cmp i) link) [] (waiting (way_of l (other_side s)) i))
+    → waiting (way_of (dropped_with link s l w) t) j ≡ cond (same_queue (queue.Link link (other_side s)) (queue.Link j t)) [] (waiting (way_of l t) j)
+dropped_waits l s t link j w cleared =
+    ap (λ v. waiting v j) (dropped_ways l s t link w)
+    ∙ (by (same_side (other_side s) t) refl ∙ ap (λ b. cond b [] (waiting (way_of l t) j)) (sym (same_link (other_side s) t link j)))
+  where
+    by : (c : Bool) → same_side (other_side s) t ≡ c → waiting (cond c w (way_of l t)) j ≡ cond (c && is_at (nat_cmp j) link) [] (waiting (way_of l t) j)
+    by true is = cleared j ∙ ap (λ v. cond (is_at (nat_cmp j) link) [] (waiting v j)) (same_way l (other_side s) t is)
+    by false is = refl
 
 -- whatever it was before
 first_taken : (l : Links) (s : Side) (link : ℕ) (v : List (ℕ × List Envelope)) → end_dropped link s (with_way l (other_side s) v) ≡ dropped_with link s l (cleared_at v link)
@@ -112,27 +124,10 @@ module _ (configs : List Config) (log : List Entry) (e : Entry) (l : Links) (lin
   line_now t j true same = sym (ap (line (log ++ e ∷ [])) (queue_from_same p (queue.Link j t) same) ∙ d.emptied)
   line_now t j false other = sym (d.kept t j other)
 
-  same_way : (t : Side) (c : Bool) → same_side (other_side s) t ≡ c → c ≡ true → way_of l (other_side s) ≡ way_of l t
-  same_way t true is h = by (other_side s) t is
-    where
-      by : (u v : Side) → same_side u v ≡ true → way_of l u ≡ way_of l v
-      by side.Out side.Out h = refl
-      by side.In side.In h = refl
-      by side.Out side.In h = cc
-      by side.In side.Out h = cc
-  same_way t false is h = cc
-
   dropped_line : (w : List (ℕ × List Envelope)) → ((j : ℕ) → waiting w j ≡ cond (is_at (nat_cmp j) link) [] (waiting (way_of l (other_side s)) j)) → (t : Side) (j : ℕ)
       → waiting (way_of (dropped_with link s l w) t) j ≡ line (log ++ e ∷ []) (queue.Link j t)
   dropped_line w cleared t j =
-      ap (λ v. waiting v j) (dropped_ways l s t link w)
-      ∙ (by (same_side (other_side s) t) refl
-      ∙ (ap (λ b. cond b [] (waiting (way_of l t) j)) (sym (same_link (other_side s) t link j))
-      ∙ (ap (λ (v : List Envelope). cond (same_queue p (queue.Link j t)) [] v) (st.waits t j) ∙ line_now t j (same_queue p (queue.Link j t)) refl)))
-    where
-      by : (c : Bool) → same_side (other_side s) t ≡ c → waiting (cond c w (way_of l t)) j ≡ cond (c && is_at (nat_cmp j) link) [] (waiting (way_of l t) j)
-      by true is = cleared j ∙ ap (λ v. cond (is_at (nat_cmp j) link) [] (waiting v j)) (same_way t true is refl)
-      by false is = refl
+      dropped_waits l s t link j w cleared ∙ (ap (λ (v : List Envelope). cond (same_queue p (queue.Link j t)) [] v) (st.waits t j) ∙ line_now t j (same_queue p (queue.Link j t)) refl)
 
   dropped_stand : (w : List (ℕ × List Envelope)) → ((j : ℕ) → waiting w j ≡ cond (is_at (nat_cmp j) link) [] (waiting (way_of l (other_side s)) j)) → LinksStand configs (log ++ e ∷ []) (dropped_with link s l w)
   dropped_stand w cleared =

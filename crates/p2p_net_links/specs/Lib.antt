@@ -1,4 +1,5 @@
 pub mod Cutting
 pub mod Dropping
+pub mod Left
 pub mod Links
 pub mod Stands

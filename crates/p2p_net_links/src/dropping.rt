@@ -24,7 +24,7 @@ impl Links {
     }
 
     /// The end of a link that writes in this direction is dropped. The frames in flight towards it, which are those of the other
-    /// direction, end untaken, the oldest first, each with its copies.
+    /// direction, end untaken for this cause, the oldest first, each with its copies.
     ///
     /// `Err` only where there is no memory. The frames may then be gone and told of to nobody, and the node that drops the end
     /// goes no further.
@@ -34,20 +34,21 @@ impl Links {
         row: &mut Row,
         link: u64,
         side: Side,
+        cause: Cause,
     ) -> Result<(), AllocError>
-        ensures row { OnOk result (row.new ≡ record row.old { ends = row.old.ends ++ all_end Cause.ConnectionEnded (waiting (way_of self.old (other_side side)) link) }) }
+        ensures row { OnOk result (row.new ≡ record row.old { ends = row.old.ends ++ all_end cause (waiting (way_of self.old (other_side side)) link) }) }
         ensures after { OnOk result (self.new ≡ end_dropped link side self.old) }
     {
         match side {
             Side::Out => {
                 let left = self.inward.take_all_at(alloc, link);
                 self.dropped_outward.insert(link, ())?;
-                drop_items(row, left, Cause::ConnectionEnded)
+                drop_items(row, left, cause)
             }
             Side::In => {
                 let left = self.outward.take_all_at(alloc, link);
                 self.dropped_inward.insert(link, ())?;
-                drop_items(row, left, Cause::ConnectionEnded)
+                drop_items(row, left, cause)
             }
         }
     }

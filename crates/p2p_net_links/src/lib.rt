@@ -7,4 +7,4 @@ mod dropping;
 pub mod links;
 mod openings;
 
-pub use links::Links;
+pub use links::{Links, side_at};

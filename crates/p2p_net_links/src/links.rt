@@ -2,6 +2,7 @@
 ghost use Rattle.std.specs.Prelude.{◌≡◌, ℕ, ◌++◌, ◌∷◌, [], length, map, slice_get, IfOk, OnOk};
 ghost use Rattle.std.specs.Option.{option_copied};
 ghost use Rattle.p2p_log_rules.specs.Effect.{only as only_reply, ping_puts};
+ghost use Rattle.p2p_log_rules.specs.Halves.{side_at as side_at_node};
 ghost use Rattle.p2p_net_queues.specs.Tables.{waiting, popped_at};
 ghost use Rattle.p2p_net_links.specs.Links.{no_links, way_of, pinged_way, written_way, batch_way, with_way, batch_row, write_frames_row};
 
@@ -184,4 +185,11 @@ impl Links {
             }
         }
     }
+}
+
+/// The direction in which a node writes to a link, by the node that dialed it.
+pub fn side_at(node: u64, dialer: u64) -> Side
+    ensures { result ≡ side_at_node node dialer }
+{
+    if dialer == node { Side::Out } else { Side::In }
 }

@@ -10,8 +10,10 @@ use p2p_log::{Cause, End, Envelope, Item, Outcome};
 use p2p_log_rules::Row;
 use std::alloc::AllocError;
 
-/// The copy of this name is dropped.
-fn drop_copy(row: &mut Row, copy: (u64, u64), cause: Cause) -> Result<(), AllocError>
+/// The copy of this name is dropped for this cause.
+///
+/// `Err` only where there is no memory.
+pub fn drop_copy(row: &mut Row, copy: (u64, u64), cause: Cause) -> Result<(), AllocError>
     ensures { OnOk result (row.new ≡ record row.old { ends = row.old.ends ++ dropped cause copy ∷ [] }) }
 {
     row.ends
@@ -19,8 +21,10 @@ fn drop_copy(row: &mut Row, copy: (u64, u64), cause: Cause) -> Result<(), AllocE
     Ok(())
 }
 
-/// Each copy of a send to these keys is dropped, in order.
-fn drop_sent(row: &mut Row, send: u64, to: &[Key], cause: Cause) -> Result<(), AllocError>
+/// Each copy of a send to these keys is dropped for this cause, in order.
+///
+/// `Err` only where there is no memory. Some of them may then be missing in the row, and the node that ends them goes no further.
+pub fn drop_sent(row: &mut Row, send: u64, to: &[Key], cause: Cause) -> Result<(), AllocError>
     ensures { OnOk result (row.new ≡ record row.old { ends = row.old.ends ++ sent_dropped cause send 0 to.now }) }
 {
     for place in 0..to.len() {

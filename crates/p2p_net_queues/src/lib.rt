@@ -11,7 +11,7 @@ pub mod table;
 pub mod turn;
 
 pub use board::Board;
-pub use dropping::{drop_items, drop_named, take_all_dropped, take_dropped};
+pub use dropping::{drop_copy, drop_items, drop_named, drop_sent, take_all_dropped, take_dropped};
 pub use ending::{end_copies, end_items};
 pub use p2p_base::Deque;
 pub use rows::{only, taking};

@@ -1,5 +1,7 @@
 //! `Table`, a map from numbers that contracts see as the list of its entries.
-ghost use Rattle.std.specs.Prelude.{◌≡◌, ◌==◌, ℕ, [], ◌∷◌, ◌++◌, None, cond, length, slice_get, is_some, IfOk, OnOk};
+ghost use Rattle.std.specs.Prelude.{◌≡◌, ◌==◌, ℕ, [], ◌∷◌, ◌++◌, None, cond, length, slice_get, is_some, IfOk, OnOk, IfSome, IfNone};
+ghost use Rattle.std.specs.List.Sorted.{IsStrictlySortedBy};
+ghost use Rattle.std.specs.Map.{keys_of};
 ghost use Rattle.std.specs.BTreeMap.{insert_entry};
 ghost use Rattle.std.specs.Ordering.{nat_cmp};
 ghost use Rattle.std.specs.Option.{option_copied};
@@ -60,6 +62,17 @@ impl<V: Drop> Table<V> {
         ensures rest { (k : ℕ) → at self.new k ≡ cond (k == key) None (at self.old k) }
     {
         self.tree.remove(&key)
+    }
+
+    /// Takes the first key out, with its value.
+    pub fn pop_first(&mut self) -> Option<(u64, V)>
+        ensures taken { IfSome result (λ e. self.old ≡ e ∷ self.new) }
+        ensures empty { IfNone result (self.old ≡ []) }
+        ensures unchanged { IfNone result (self.new ≡ []) }
+        ensures ordered { IsStrictlySortedBy nat_cmp (keys_of self.old) }
+    {
+        let _ = self.tree.len();
+        self.tree.pop_first()
     }
 
     /// The value of a key, where it stands.

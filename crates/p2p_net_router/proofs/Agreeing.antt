@@ -14,6 +14,7 @@ use Rattle.p2p_log.proofs.Queues.{same_queue-sym, same_queue-congr}
 use Rattle.p2p_log.specs.Apart.{AreApart}
 use Rattle.p2p_log.proofs.Names.{filter_stays-first}
 use Rattle.p2p_net_queues.proofs.Placing.{placed-append}
+use Rattle.p2p_log_rules.proofs.Left.{without as without_line, line_gone, line_kept}
 use Rattle.p2p_log_rules.proofs.Touches.{away}
 use Rattle.p2p_net_router.specs.Names.{Agrees, is_routers}
 
@@ -56,37 +57,61 @@ module _ {T : Type 0} where
       ∙ (ap (λ b. filter (stands_in q) items ++ cond b (x ∷ []) []) (away q own)
       ∙ append-nil (filter (stands_in q) items))))
 
-  -- the first item of a queue, taken
+  -- a queue, once the first item of one was taken
+  pub popped_at :
+      (part : Envelope → T) (old new : List T) (items : List Envelope) (p q : Queue) (x : Envelope) (rest : List Envelope)
+      → AreApart items → filter (stands_in p) items ≡ x ∷ rest → old ≡ map part (filter (stands_in q) items) → new ≡ cond (same_queue p q) (drop 1 old) old
+      → new ≡ map part (filter (stands_in q) (filter (stays (name_of x ∷ [])) items))
+  popped_at part old new items p q x rest apart first h step =
+      step
+      ∙ ((elim (same_queue p q) as (λ b. same_queue p q ≡ b → cond b (drop 1 old) old ≡ map part (cond b rest (filter (stands_in q) items))) [
+        | true ↦ λ k. ap (drop 1) (h ∙ ap (map part) (line_same p q items k ∙ first))
+        | false ↦ λ k. h
+      ]) refl
+      ∙ ap (map part) (sym (filter_stays-first items p q x rest apart first)))
+
   pub Agrees-pop :
       (n : ℕ) (part : Envelope → T) (old new : Queue → List T) (items : List Envelope) (p : Queue) (x : Envelope) (rest : List Envelope)
       → AreApart items → filter (stands_in p) items ≡ x ∷ rest → Agrees n part old items
       → ((q : Queue) → is_routers n q ≡ true → new q ≡ cond (same_queue p q) (drop 1 (old q)) (old q))
       → Agrees n part new (filter (stays (name_of x ∷ [])) items)
-  Agrees-pop n part old new items p x rest apart first h step =
-      λ q own.
-      step q own
-      ∙ ((elim (same_queue p q) as (λ b. same_queue p q ≡ b → cond b (drop 1 (old q)) (old q) ≡ map part (cond b rest (filter (stands_in q) items))) [
-        | true ↦ λ k. ap (drop 1) (h q own ∙ ap (map part) (line_same p q items k ∙ first))
-        | false ↦ λ k. h q own
-      ]) refl
-      ∙ ap (map part) (sym (filter_stays-first items p q x rest apart first)))
+  Agrees-pop n part old new items p x rest apart first h step = λ q own. popped_at part (old q) (new q) items p q x rest apart first (h q own) (step q own)
 
-  -- nothing taken of a queue in which nothing stands
+  -- a queue, once nothing was taken of one in which nothing stands
+  pub idle_at :
+      (part : Envelope → T) (old new : List T) (items : List Envelope) (p q : Queue)
+      → filter (stands_in p) items ≡ [] → old ≡ map part (filter (stands_in q) items) → new ≡ cond (same_queue p q) (drop 1 old) old
+      → new ≡ map part (filter (stands_in q) items)
+  idle_at part old new items p q none h step =
+      step
+      ∙ ((elim (same_queue p q) as (λ b. same_queue p q ≡ b → cond b (drop 1 old) old ≡ old) [
+        | true ↦ λ k.
+            let empty : old ≡ [] = h ∙ ap (map part) (line_same p q items k ∙ none) in
+            ap (drop 1) empty ∙ sym empty
+        | false ↦ λ k. refl
+      ]) refl
+      ∙ h)
+
   pub Agrees-idle :
       (n : ℕ) (part : Envelope → T) (old new : Queue → List T) (items : List Envelope) (p : Queue)
       → filter (stands_in p) items ≡ [] → Agrees n part old items
       → ((q : Queue) → is_routers n q ≡ true → new q ≡ cond (same_queue p q) (drop 1 (old q)) (old q))
       → Agrees n part new items
-  Agrees-idle n part old new items p none h step =
+  Agrees-idle n part old new items p none h step = λ q own. idle_at part (old q) (new q) items p q none (h q own) (step q own)
+
+  -- all items of a queue, taken
+  pub Agrees-emptied :
+      (n : ℕ) (part : Envelope → T) (old new : Queue → List T) (items : List Envelope) (p : Queue)
+      → AreApart items → Agrees n part old items
+      → ((q : Queue) → is_routers n q ≡ true → new q ≡ cond (same_queue p q) [] (old q))
+      → Agrees n part new (without_line p items)
+  Agrees-emptied n part old new items p apart h step =
       λ q own.
       step q own
-      ∙ ((elim (same_queue p q) as (λ b. same_queue p q ≡ b → cond b (drop 1 (old q)) (old q) ≡ old q) [
-        | true ↦ λ k.
-            let empty : old q ≡ [] = h q own ∙ ap (map part) (line_same p q items k ∙ none) in
-            ap (drop 1) empty ∙ sym empty
-        | false ↦ λ k. refl
+      ∙ (elim (same_queue p q) as (λ b. same_queue p q ≡ b → cond b [] (old q) ≡ map part (filter (stands_in q) (without_line p items))) [
+        | true ↦ λ k. ap (map part) (sym (line_same p q (without_line p items) k ∙ line_gone items p))
+        | false ↦ λ k. h q own ∙ ap (map part) (sym (line_kept p q items apart k))
       ]) refl
-      ∙ h q own)
 
 -- an answer to a connection stands in no queue of the router
 pub answer_away : (n m conn : ℕ) (q : Queue) → is_routers n q ≡ true → same_queue q (queue.Ready m conn) ≡ false

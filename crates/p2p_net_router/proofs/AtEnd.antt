@@ -39,7 +39,7 @@ use Rattle.p2p_net_router.proofs.Idle.{releasable}
 use Rattle.p2p_net_router.proofs.Linking.{routes_in-with_link}
 use Rattle.p2p_net_router.proofs.Over.{over_same}
 
-closed_routes : (links : List (Key × Link)) (key : Key) (o : Option Link) → link_of key_cmp links key ≡ o → routes_in (closed_link o links key) ≡ routes_in links
+pub closed_routes : (links : List (Key × Link)) (key : Key) (o : Option Link) → link_of key_cmp links key ≡ o → routes_in (closed_link o links key) ≡ routes_in links
 closed_routes links key None at = refl
 closed_routes links key (Some l) at = routes_in-with_link links key l _ at refl
 

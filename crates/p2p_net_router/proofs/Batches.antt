@@ -24,7 +24,8 @@ use Rattle.p2p_net_router.proofs.Beside.{filter-first_away}
 abbrev pub left : List Envelope → List Envelope → List Envelope
 left taken items = filter (stays (map name_of taken)) items
 
-first_goes : (q : Queue) (items : List Envelope) (x : Envelope) (rest : List Envelope) → AreApart items → filter (stands_in q) items ≡ x ∷ rest → filter (stands_in q) (filter (stays (name_of x ∷ [])) items) ≡ rest
+-- the rest of a line, whose first goes
+pub first_goes : (q : Queue) (items : List Envelope) (x : Envelope) (rest : List Envelope) → AreApart items → filter (stands_in q) items ≡ x ∷ rest → filter (stands_in q) (filter (stays (name_of x ∷ [])) items) ≡ rest
 first_goes q items x rest apart first = filter_stays-first items q q x rest apart first ∙ ap (λ b. cond b rest (filter (stands_in q) items)) (same_queue-refl q)
 
 -- a line without its front

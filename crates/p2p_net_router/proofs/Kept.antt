@@ -9,7 +9,7 @@ use Rattle.p2p_log.specs.declared.event.Event.{Event}
 use Rattle.p2p_log.specs.declared.event.Act.{Act}
 use Rattle.p2p_log_rules.specs.declared.row.Row.{Row}
 use Rattle.p2p_log.specs.Lines.{stays, placed, live}
-use Rattle.p2p_log_rules.specs.Facts.{is_up, registers_at, channels, sum_capacities}
+use Rattle.p2p_log_rules.specs.Facts.{is_up, registers_at, sum_capacities}
 use Rattle.p2p_log_rules.specs.Effect.{entry_of, mailbox_size_at, router_capacity}
 use Rattle.p2p_log_rules.proofs.Connections.{may_end}
 use Rattle.p2p_log_rules.proofs.Channels.{channels-kept}

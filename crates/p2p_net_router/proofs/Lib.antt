@@ -16,6 +16,7 @@ pub mod Endings
 pub mod First
 pub mod Idle
 pub mod Kept
+pub mod Leaving
 pub mod Linking
 pub mod Listed
 pub mod Noting
@@ -27,6 +28,7 @@ pub mod Peered
 pub mod Readying
 pub mod Released
 pub mod Releasing
+pub mod Resting
 pub mod Rings
 pub mod Routed
 pub mod Sent

@@ -1,5 +1,5 @@
 -- Items that are taken one by one.
-use Rattle.std.proofs.Common.{◌≡◌, ℕ, zero, suc, ◌+◌, ◌-◌, ◌≤◌, List, [], ◌∷◌, ◌++◌, length, take, drop, ap, sym, ◌∙◌, arith, append_assoc, add-one, Some, None}
+use Rattle.std.proofs.Common.{◌≡◌, ℕ, zero, suc, ◌+◌, ◌-◌, ◌≤◌, List, [], ◌∷◌, ◌++◌, length, take, drop, refl, ap, sym, ◌∙◌, arith, append_assoc, add-one, Some, None}
 use Rattle.std.specs.Prelude.{map, slice_get}
 use Rattle.std.proofs.lemmas.List.{take_all, map-append}
 use Rattle.p2p_log.specs.declared.item.Envelope.{Envelope}
@@ -9,6 +9,14 @@ take_next zero [] x h = cc
 take_next (suc i) [] x h = cc
 take_next zero (y ∷ ys) x h = let e : y ≡ x = cc in ap (λ z. z ∷ []) e
 take_next (suc i) (y ∷ ys) x h = ap (λ l. y ∷ l) (take_next i ys x h)
+
+pub take_then : (i : ℕ) (xs : List Envelope) → take (i + 1) xs ≡ take i xs ++ take 1 (drop i xs)
+take_then i xs = ap (λ k. take k xs) (add-one i) ∙ then i xs
+  where
+    then : (k : ℕ) (ys : List Envelope) → take (suc k) ys ≡ take k ys ++ take 1 (drop k ys)
+    then zero ys = refl
+    then (suc k) [] = refl
+    then (suc k) (y ∷ ys) = ap (λ l. y ∷ l) (then k ys)
 
 -- the items so far, with the next one
 pub map-take_next :

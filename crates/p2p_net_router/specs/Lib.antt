@@ -9,7 +9,9 @@ pub mod Names
 pub mod Oldest
 pub mod Peers
 pub mod Relays
+pub mod Resting
 pub mod Sound
 pub mod Stands
 pub mod Stepped
+pub mod Stopping
 pub mod Telling

@@ -17,3 +17,8 @@ accepted_reply telling.Outcome n c keys = reply.Outcome (Outcome feedback.Ok) n 
 abbrev pub refused_reply : Telling → ℕ → ℕ → List Key → Reply
 refused_reply telling.Sent n c keys = reply.Sent []
 refused_reply telling.Outcome n c keys = reply.Outcome Rejected n c keys
+
+-- to one at a node that has stopped
+abbrev pub closed_reply : Telling → ℕ → ℕ → List Key → Reply
+closed_reply telling.Sent n c keys = reply.Sent []
+closed_reply telling.Outcome n c keys = reply.Outcome (Outcome feedback.Closed) n c keys

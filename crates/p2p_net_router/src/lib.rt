@@ -14,6 +14,7 @@ mod peers;
 mod release;
 mod router;
 mod step;
+mod stopping;
 mod telling;
 
 pub use name::Name;

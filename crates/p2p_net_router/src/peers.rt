@@ -3,6 +3,7 @@ ghost use Rattle.std.specs.Prelude.{◌≡◌, map, filter, take as first_of, If
 ghost use Rattle.p2p_log.specs.Lines.{name_of, stays, stands_in};
 ghost use Rattle.p2p_log.specs.Apart.{AreApart};
 ghost use Rattle.p2p_net_router.specs.Peers.{names_taken, peers_known};
+ghost use Rattle.p2p_net_router.specs.Resting.{IsListing};
 ghost use Rattle.p2p_net_router.specs.Stands.{StandsOver};
 
 use crate::Router;
@@ -17,6 +18,9 @@ impl Router {
             → names_taken result ≡ map name_of (first_of 1 (filter (stands_in (Queue.Peers self.old.number channel)) items)) }
         ensures stands { (configs : _) (log : _) (items : _) → StandsOver configs log self.old items → AreApart items
             → StandsOver configs log self.new (filter (stays (names_taken result)) items) }
+        ensures named { (items : _) → IsListing self.old items
+            → names_taken result ≡ map name_of (first_of 1 (filter (stands_in (Queue.Peers self.old.number channel)) items)) }
+        ensures listing { (items : _) → IsListing self.old items → AreApart items → IsListing self.new (filter (stays (names_taken result)) items) }
         ensures rest { self.new ≡ record self.old { messenger = record self.old.messenger { lists = self.new.messenger.lists }; names = self.new.names } }
     {
         let Some(number) = self.subscriptions.get(&channel).copied() else {

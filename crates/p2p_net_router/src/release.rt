@@ -18,7 +18,7 @@ use p2p_router::{Actor, Messenger};
 use std::alloc::AllocError;
 
 /// Closes a key's relay: what waits there goes, and nothing enters it any more.
-fn close_relay(actor: &mut Actor<Key>, key: Key)
+pub fn close_relay(actor: &mut Actor<Key>, key: Key)
     ensures { actor.new ≡ record actor.old { links = closed_link (link_of key_cmp actor.old.links key) actor.old.links key } }
 {
     match actor.relay_of(&key) {

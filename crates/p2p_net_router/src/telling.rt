@@ -1,6 +1,6 @@
 //! `Telling`, what the reply to a message says.
 ghost use Rattle.std.specs.Prelude.{◌≡◌};
-ghost use Rattle.p2p_net_router.specs.Telling.{accepted_reply, refused_reply};
+ghost use Rattle.p2p_net_router.specs.Telling.{accepted_reply, closed_reply, refused_reply};
 
 use p2p_base::{Feedback, Key, List, Unreliable};
 use p2p_log::Reply;
@@ -24,6 +24,21 @@ impl Telling {
             Telling::Sent => Reply::Sent(keys),
             Telling::Outcome => Reply::Outcome {
                 outcome: Unreliable::Outcome(Feedback::Ok),
+                node,
+                channel,
+                keys,
+            },
+        }
+    }
+
+    /// The reply to a message for these keys at a node that has stopped, whose router's mailbox is closed.
+    pub fn closed(self, alloc: Global, node: u64, channel: u64, keys: List<Key>) -> Reply
+        ensures { result ≡ closed_reply self node channel keys }
+    {
+        match self {
+            Telling::Sent => Reply::Sent(List::empty(alloc)),
+            Telling::Outcome => Reply::Outcome {
+                outcome: Unreliable::Outcome(Feedback::Closed),
                 node,
                 channel,
                 keys,

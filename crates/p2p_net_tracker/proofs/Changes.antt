@@ -1,4 +1,4 @@
--- A node's tracker after one more entry: one that leaves it alone, one that asks it, and one that reads what it told.
+-- A node's tracker after one more entry: one that leaves it alone, one that asks it, one that leaves its mailbox, and one that reads what it told.
 use Rattle.std.proofs.Common.{◌≡◌, ℕ, Bool, true, false, cond, List, [], ◌∷◌, ◌++◌, map, drop, length, Option, Some, None, refl, ap, sym, subst, ◌∙◌, append-nil, eq-eqb}
 use Rattle.std.specs.Prelude.{filter, flat_map, slice_get, is_some, if◌then◌else◌}
 use Rattle.std.proofs.lemmas.List.{map-append}
@@ -25,6 +25,7 @@ use Rattle.p2p_log.proofs.QueueNames.{queue_from_same}
 use Rattle.p2p_log_rules.specs.Connections.{ends_connection}
 use Rattle.p2p_log_rules.specs.Handshakes.{handshakes_of}
 use Rattle.p2p_log_rules.specs.Tracking.{key_cmp, asked_by, update_subscriptions, blocked_subscriptions}
+use Rattle.p2p_net_queues.specs.declared.board.Board.{Board}
 use Rattle.p2p_net_queues.specs.Board.{held}
 use Rattle.p2p_net_queues.proofs.Going.{put_in, line-kept, line-taken}
 use Rattle.p2p_net_queues.proofs.Holding.{TakesFirst}
@@ -219,6 +220,56 @@ tracker_asked configs log e n t desk tickets questions_now m s q more put says q
       told = λ p own. s.told p own ∙ sym (same p own);
     }
 
+-- ---- what was asked, was answered and is told
+
+-- an entry that leaves the mailbox, and what waits for the dialer, the listener and the handshakes
+pub record LeavesMailbox (log : List Entry) (e : Entry) (n : ℕ) : Type 0 where
+  pub no_step : steps_tracker n e.event.act ≡ false
+  pub no_end : (conn : ℕ) → ends_connection n conn log e ≡ false
+  pub no_admission : handshakes_of (log ++ e ∷ []) n ≡ handshakes_of log n
+  pub mailbox : line (log ++ e ∷ []) (queue.Tracker n) ≡ line log (queue.Tracker n)
+  pub dialer : line (log ++ e ∷ []) (queue.Dialer n) ≡ line log (queue.Dialer n)
+  pub listener : line (log ++ e ∷ []) (queue.Update n) ≡ line log (queue.Update n)
+  pub handshakes : (k : ℕ) → line (log ++ e ∷ []) (queue.Handshake n k) ≡ line log (queue.Handshake n k)
+
+-- with what was asked, what was answered and what is told after it
+pub tracker_kept : (configs : List Config) (log : List Entry) (e : Entry) (n : ℕ) (t : Tracker) (board : Board Envelope) (questions_now : List (ℕ × Question)) (answered : List (ℕ × Bool)) → TrackerStands configs log n t
+    → LeavesMailbox log e n
+    → ((d : ℕ) → table.at questions_now d ≡ asks_at (log ++ e ∷ []) n d)
+    → ((d : ℕ) → asks_at (log ++ e ∷ []) n d ≡ Some question.PeerSet → is_some (table.at answered d) ≡ was_answered (log ++ e ∷ []) d)
+    → AreFresh (log ++ e ∷ []) answered
+    → ((p : Queue) → is_told n p ≡ true → held board p ≡ line (log ++ e ∷ []) p)
+    → TrackerStands configs (log ++ e ∷ []) n (record t { questions = questions_now; answered = answered; told = board })
+tracker_kept configs log e n t board questions_now answered s q asked noted fresh told = record {
+  follows = subst (Follows key_cmp t.actor.directory t.actor.controls) (sym (calls-kept configs log e n q.no_step)) s.follows;
+  rules = s.rules;
+  cooldown = s.cooldown;
+  works = s.works;
+  local = s.local;
+  most = s.most;
+  is_open = s.is_open;
+  size = s.size;
+  names = s.names ∙ ap (map name_of) (sym q.mailbox);
+  messages = subst (λ l. Match (λ y m. IsMessage t.tickets (log ++ e ∷ []) y.item m) l t.mailbox.desk.messages.items) (sym q.mailbox)
+      (messages-longer t.tickets t.tickets (same_tickets t.tickets) log (e ∷ []) (line log (queue.Tracker n)) t.mailbox.desk.messages.items s.messages);
+  given_back = subst (λ l. Match (λ y m. IsGivenBack (log ++ e ∷ []) y.entry m) l t.mailbox.desk.messages.items) (sym q.mailbox)
+      (all_given-longer log (e ∷ []) (line log (queue.Tracker n)) t.mailbox.desk.messages.items s.given_back);
+  questions = s.questions;
+  updates = s.updates;
+  sets = s.sets;
+  subscribed = subst (Match (IsTicket t.tickets.updates) t.actor.updates) (sym (update_subscriptions-kept log e n q.no_step)) s.subscribed;
+  subscribed_blocked = subst (Match (IsTicket t.tickets.blocked) t.actor.sets) (sym (blocked_subscriptions-kept log e n q.no_step)) s.subscribed_blocked;
+  asked = asked;
+  answered = noted;
+  fresh = fresh;
+  ended = noted_stay log e n t.ended s.ended q.no_end;
+  dialer = subst (λ l. Match (λ y a. IsAnswer y.item a) l t.mailbox.dialer) (sym q.dialer) s.dialer;
+  heard = subst (HeardStands t.mailbox.heard) (sym q.listener) s.heard;
+  handshakes = handshaking-kept log e n t.mailbox.handshakes q.no_admission q.handshakes s.handshakes;
+  distinct = s.distinct;
+  told = told;
+}
+
 -- ---- what was told is read
 
 -- a queue in which it tells one who asked by an oracle
@@ -236,35 +287,19 @@ pub tracker_read : (configs : List Config) (log : List Entry) (e : Entry) (n : �
     → AreFresh (log ++ e ∷ []) answered
     → ((p : Queue) → held u.told p ≡ (if same_queue q p then drop 1 (held t.told p) else held t.told p)) → TrackerStands configs (log ++ e ∷ []) n u
 tracker_read configs log e n t u q x rest answered s no_step no_question no_end no_admission takes none asker same noted fresh pops =
-    subst (TrackerStands configs (log ++ e ∷ []) n) (sym same) (record {
-      follows = subst (Follows key_cmp t.actor.directory t.actor.controls) (sym (calls-kept configs log e n no_step)) s.follows;
-      rules = s.rules;
-      cooldown = s.cooldown;
-      works = s.works;
-      local = s.local;
-      most = s.most;
-      is_open = s.is_open;
-      size = s.size;
-      names = s.names ∙ ap (map name_of) (sym mailbox);
-      messages = subst (λ l. Match (λ y m. IsMessage t.tickets (log ++ e ∷ []) y.item m) l t.mailbox.desk.messages.items) (sym mailbox)
-          (messages-longer t.tickets t.tickets (same_tickets t.tickets) log (e ∷ []) (line log (queue.Tracker n)) t.mailbox.desk.messages.items s.messages);
-      given_back = subst (λ l. Match (λ y m. IsGivenBack (log ++ e ∷ []) y.entry m) l t.mailbox.desk.messages.items) (sym mailbox)
-          (all_given-longer log (e ∷ []) (line log (queue.Tracker n)) t.mailbox.desk.messages.items s.given_back);
-      questions = s.questions;
-      updates = s.updates;
-      sets = s.sets;
-      subscribed = subst (Match (IsTicket t.tickets.updates) t.actor.updates) (sym (update_subscriptions-kept log e n no_step)) s.subscribed;
-      subscribed_blocked = subst (Match (IsTicket t.tickets.blocked) t.actor.sets) (sym (blocked_subscriptions-kept log e n no_step)) s.subscribed_blocked;
-      asked = λ d. s.asked d ∙ sym (asks_at-kept log e n d no_question);
-      answered = λ d is. noted d (sym (asks_at-kept log e n d no_question) ∙ is);
-      fresh = fresh;
-      ended = noted_stay log e n t.ended s.ended no_end;
-      dialer = subst (λ l. Match (λ y a. IsAnswer y.item a) l t.mailbox.dialer) (sym (other (queue.Dialer n) asker.no_dialer)) s.dialer;
-      heard = subst (HeardStands t.mailbox.heard) (sym (other (queue.Update n) asker.no_listener)) s.heard;
-      handshakes = handshaking-kept log e n t.mailbox.handshakes no_admission (λ k. other (queue.Handshake n k) (asker.no_handshake k)) s.handshakes;
-      distinct = s.distinct;
-      told = λ p here. pops p ∙ (left p here (same_queue q p) refl ∙ sym (after p));
+    subst (TrackerStands configs (log ++ e ∷ []) n) (sym same)
+    (tracker_kept configs log e n t u.told t.questions answered s
+    (record {
+      no_step = no_step;
+      no_end = no_end;
+      no_admission = no_admission;
+      mailbox = other (queue.Tracker n) (told_apart n n q asker.own);
+      dialer = other (queue.Dialer n) asker.no_dialer;
+      listener = other (queue.Update n) asker.no_listener;
+      handshakes = λ k. other (queue.Handshake n k) (asker.no_handshake k);
     })
+    (λ d. s.asked d ∙ sym (asks_at-kept log e n d no_question)) (λ d is. noted d (sym (asks_at-kept log e n d no_question) ∙ is)) fresh
+    (λ p here. pops p ∙ (left p here (same_queue q p) refl ∙ sym (after p))))
   where
     after : (p : Queue) → line (log ++ e ∷ []) p ≡ cond (same_queue q p) rest (line log p)
     after p =
@@ -273,9 +308,6 @@ tracker_read configs log e n t u q x rest answered s no_step no_question no_end 
 
     other : (p : Queue) → same_queue q p ≡ false → line (log ++ e ∷ []) p ≡ line log p
     other p apart = after p ∙ ap (λ b. cond b rest (line log p)) apart
-
-    mailbox : line (log ++ e ∷ []) (queue.Tracker n) ≡ line log (queue.Tracker n)
-    mailbox = other (queue.Tracker n) (told_apart n n q asker.own)
 
     left : (p : Queue) → is_told n p ≡ true → (b : Bool) → same_queue q p ≡ b → (if b then drop 1 (held t.told p) else held t.told p) ≡ cond b rest (line log p)
     left p here true is = ap (drop 1) (s.told p here ∙ (ap (line log) (queue_from_same q p is) ∙ takes.first))

@@ -48,17 +48,20 @@ noted_stay log e n ended stands none conn = stands conn ∙ sym (is_ended-kept l
 pub others_kept : (log : List Entry) (e : Entry) (n conn : ℕ) → ((c : ℕ) → ends_connection n c log e ≡ (c == conn)) → (c : ℕ) → (c == conn) ≡ false → is_ended (log ++ e ∷ []) n c ≡ is_ended log n c
 others_kept log e n conn ends c apart = is_ended-kept log e n c (ends c ∙ apart)
 
--- and one more is kept
-pub noted_more : (log : List Entry) (e : Entry) (n conn : ℕ) (ended : List (ℕ × Unit {0})) → ((c : ℕ) → is_noted ended c ≡ is_ended log n c) → ((c : ℕ) → ends_connection n c log e ≡ (c == conn))
-    → (c : ℕ) → is_noted (insert_entry nat_cmp ended conn tt) c ≡ is_ended (log ++ e ∷ []) n c
-noted_more log e n conn ended stands ends c =
-    ap (λ (o : Option (Unit {0})). is_some o) (at-inserted conn c tt ended)
-    ∙ (either (c == conn) (at ended c)
-    ∙ (ap (λ b. b || (c == conn)) (stands c)
-    ∙ (ap (λ b. is_ended log n c || b) (sym (ends c)) ∙ sym (is_ended-append log e n c))))
+-- with one more kept, that one and those before are
+pub noted_one : (conn c : ℕ) (ended : List (ℕ × Unit {0})) → is_noted (insert_entry nat_cmp ended conn tt) c ≡ (is_noted ended c || (c == conn))
+noted_one conn c ended = ap (λ (o : Option (Unit {0})). is_some o) (at-inserted conn c tt ended) ∙ either (c == conn) (at ended c)
   where
     either : (b : Bool) (o : Option (Unit {0})) → is_some (cond b (Some tt) o) ≡ (is_some o || b)
     either true None = refl
     either true (Some u) = refl
     either false None = refl
     either false (Some u) = refl
+
+-- and one more is kept
+pub noted_more : (log : List Entry) (e : Entry) (n conn : ℕ) (ended : List (ℕ × Unit {0})) → ((c : ℕ) → is_noted ended c ≡ is_ended log n c) → ((c : ℕ) → ends_connection n c log e ≡ (c == conn))
+    → (c : ℕ) → is_noted (insert_entry nat_cmp ended conn tt) c ≡ is_ended (log ++ e ∷ []) n c
+noted_more log e n conn ended stands ends c =
+    noted_one conn c ended
+    ∙ (ap (λ b. b || (c == conn)) (stands c)
+    ∙ (ap (λ b. is_ended log n c || b) (sym (ends c)) ∙ sym (is_ended-append log e n c)))

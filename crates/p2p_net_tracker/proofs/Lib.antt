@@ -23,4 +23,5 @@ pub mod Rings
 pub mod Serving
 pub mod StepLeft
 pub mod Steps
+pub mod Stopped
 pub mod ToldLines

@@ -11,4 +11,5 @@ pub mod Naming
 pub mod Reading
 pub mod Stands
 pub mod Stepping
+pub mod Stopping
 pub mod Telling

@@ -1,5 +1,5 @@
 -- What those who asked a tracker take.
-use Rattle.std.specs.Prelude.{◌≡◌, ℕ, Bool, true, false, List, Option, Some, None, drop, slice_get, is_some, if◌then◌else◌}
+use Rattle.std.specs.Prelude.{◌≡◌, ℕ, Bool, true, false, cond, List, Option, Some, None, drop, slice_get, is_some, if◌then◌else◌}
 use Rattle.std.specs.BTreeMap.{insert_entry}
 use Rattle.std.specs.Ordering.{nat_cmp}
 use Rattle.p2p_log.specs.declared.queue.Queue.{Queue}
@@ -22,17 +22,25 @@ use Rattle.p2p_log_rules.specs.Puts.{is_peer_set}
 abbrev pub reply_for : Item → Reply
 reply_for i = told_of i
 
--- the first item is taken, or it is pending
-abbrev pub read_first : Option Envelope → Row
-read_first None = only reply.Pending
-read_first (Some x) = taken_row (told_of x.item) x
+-- what is answered where an answer does not wait: from a node that has stopped there is none to come
+abbrev pub no_answer : Bool → Reply
+no_answer stopped = cond stopped (reply.PeerSet None) reply.Pending
+
+-- and where nothing waits for a subscription
+abbrev pub no_more : Bool → Reply
+no_more stopped = cond stopped reply.StreamEnded reply.Pending
+
+-- the first item is taken, or this is answered
+abbrev pub read_first : Reply → Option Envelope → Row
+read_first empty None = only empty
+read_first empty (Some x) = taken_row (told_of x.item) x
 
 -- the oldest item of a queue is taken
 abbrev pub Pops : Queue → Tracker → Tracker → Type 0
 Pops q old new = (p : Queue) → held new.told p ≡ (if same_queue q p then drop 1 (held old.told p) else held old.told p)
 
-abbrev pub ReadsFrom : Queue → Tracker → Tracker → Row → Type 0
-ReadsFrom q old new r = (r ≡ read_first (slice_get (held old.told q) 0)) × (Pops q old new × (new ≡ record old { told = new.told }))
+abbrev pub ReadsFrom : Reply → Queue → Tracker → Tracker → Row → Type 0
+ReadsFrom empty q old new r = (r ≡ read_first empty (slice_get (held old.told q) 0)) × (Pops q old new × (new ≡ record old { told = new.told }))
 
 -- the tracker is as it was, and this is answered
 abbrev pub OnlyAnswers : Reply → Tracker → Tracker → Row → Type 0
@@ -43,27 +51,27 @@ abbrev pub noted : Bool → ℕ → List (ℕ × Bool) → List (ℕ × Bool)
 noted true e l = insert_entry nat_cmp l e true
 noted false e l = l
 
-abbrev pub ReadsAnswerBy : Bool → ℕ → ℕ → Tracker → Tracker → Row → Type 0
-ReadsAnswerBy true n e old new r = OnlyAnswers reply.Gone old new r
-ReadsAnswerBy false n e old new r =
-    (r ≡ read_first (slice_get (held old.told (queue.Answer n e)) 0))
+abbrev pub ReadsAnswerBy : Bool → Bool → ℕ → ℕ → Tracker → Tracker → Row → Type 0
+ReadsAnswerBy true stopped n e old new r = OnlyAnswers reply.Gone old new r
+ReadsAnswerBy false stopped n e old new r =
+    (r ≡ read_first (no_answer stopped) (slice_get (held old.told (queue.Answer n e)) 0))
     × (Pops (queue.Answer n e) old new × (new ≡ record old { told = new.told; answered = noted (is_peer_set r.reply) e old.answered }))
 
-abbrev pub ReadsAnswer : ℕ → ℕ → Tracker → Tracker → Row → Type 0
-ReadsAnswer n e old new r = ReadsAnswerBy (is_some (table.at old.answered e)) n e old new r
+abbrev pub ReadsAnswer : Bool → ℕ → ℕ → Tracker → Tracker → Row → Type 0
+ReadsAnswer stopped n e old new r = ReadsAnswerBy (is_some (table.at old.answered e)) stopped n e old new r
 
--- by what the event asked
-abbrev pub AnswersBy : Option Question → ℕ → ℕ → Tracker → Tracker → Row → Type 0
-AnswersBy (Some question.PeerSet) n e old new r = ReadsAnswer n e old new r
-AnswersBy _ n e old new r = OnlyAnswers reply.Gone old new r
+-- by what the event asked, and whether the node has stopped
+abbrev pub AnswersBy : Option Question → Bool → ℕ → ℕ → Tracker → Tracker → Row → Type 0
+AnswersBy (Some question.PeerSet) stopped n e old new r = ReadsAnswer stopped n e old new r
+AnswersBy _ stopped n e old new r = OnlyAnswers reply.Gone old new r
 
-abbrev pub Answers : ℕ → ℕ → Tracker → Tracker → Row → Type 0
-Answers n e old new r = AnswersBy (table.at old.questions e) n e old new r
+abbrev pub Answers : Bool → ℕ → ℕ → Tracker → Tracker → Row → Type 0
+Answers stopped n e old new r = AnswersBy (table.at old.questions e) stopped n e old new r
 
-abbrev pub ContinuesBy : Option Question → ℕ → ℕ → Tracker → Tracker → Row → Type 0
-ContinuesBy (Some question.Updates) n e old new r = ReadsFrom (queue.Updates n e) old new r
-ContinuesBy (Some question.Blocked) n e old new r = ReadsFrom (queue.Blocked n e) old new r
-ContinuesBy _ n e old new r = OnlyAnswers reply.Gone old new r
+abbrev pub ContinuesBy : Option Question → Bool → ℕ → ℕ → Tracker → Tracker → Row → Type 0
+ContinuesBy (Some question.Updates) stopped n e old new r = ReadsFrom (no_more stopped) (queue.Updates n e) old new r
+ContinuesBy (Some question.Blocked) stopped n e old new r = ReadsFrom (no_more stopped) (queue.Blocked n e) old new r
+ContinuesBy _ stopped n e old new r = OnlyAnswers reply.Gone old new r
 
-abbrev pub Continues : ℕ → ℕ → Tracker → Tracker → Row → Type 0
-Continues n e old new r = ContinuesBy (table.at old.questions e) n e old new r
+abbrev pub Continues : Bool → ℕ → ℕ → Tracker → Tracker → Row → Type 0
+Continues stopped n e old new r = ContinuesBy (table.at old.questions e) stopped n e old new r

@@ -7,7 +7,7 @@ ghost use Rattle.p2p_net_queues.specs.Board.{held, items_in};
 ghost use Rattle.p2p_tracker_directory.specs.Reserved.{peer_of};
 ghost use Rattle.p2p_tracker_mailbox.specs.Mailboxes.{with_message_in};
 ghost use Rattle.p2p_tracker_mailbox.specs.declared.message.Message.TheVariants as message;
-ghost use Rattle.p2p_net_tracker.specs.Ending.{dropped_row, released_by, releasing_row};
+ghost use Rattle.p2p_net_tracker.specs.Ending.{dropped_row, noted_with, released_by, releasing_row};
 
 use crate::tracker::Tracker;
 use p2p_base::{Key, NoRoom};
@@ -106,6 +106,16 @@ impl Tracker {
         self.names.push((turn.entry, row.puts.len() as u64))?;
         row.puts
             .push((Queue::Tracker(turn.node), Item::Release(key)))?;
+        self.note_ended(conn)?;
+        Ok(())
+    }
+
+    /// A connection of the node has ended: from now on the tracker puts no kill of it.
+    ///
+    /// `Err` only where there is no memory.
+    pub fn note_ended(&mut self, conn: u64) -> Result<(), AllocError>
+        ensures { OnOk result (self.new ≡ record self.old { ended = noted_with conn self.old.ended }) }
+    {
         self.ended.insert(conn, ())?;
         Ok(())
     }

@@ -3,26 +3,14 @@ ghost use Rattle.std.specs.Prelude.{◌≡◌, [], ◌++◌, ◌&&◌, IfOk, OnO
 ghost use Rattle.p2p_log.specs.declared.queue.Queue.{Queue as Name};
 ghost use Rattle.p2p_log.specs.declared.queue.Queue.TheVariants as queue;
 ghost use Rattle.p2p_log.specs.QueueCode.{same_queue};
-ghost use Rattle.p2p_log_rules.specs.Attempting.{left_ends};
 ghost use Rattle.p2p_net_queues.specs.Board.{held};
 ghost use Rattle.p2p_net_tracker.specs.Handshaking.{left_of, ends_by, handshake_step_row};
 
 use crate::tracker::Tracker;
-use p2p_log::{End, Envelope, Queue, Reply};
+use p2p_log::{Queue, Reply};
 use p2p_log_rules::Row;
 use p2p_net_queues::{Turn, only};
 use std::alloc::AllocError;
-use std::collections::VecDeque;
-
-/// Ends these items, in order.
-fn end_each(row: &mut Row, left: VecDeque<Envelope>) -> Result<(), AllocError>
-    ensures { OnOk result (row.new ≡ record row.old { ends = row.old.ends ++ left_ends left.items }) }
-{
-    for kept in left {
-        row.ends.push(End::Item(kept.entry, kept.place))?;
-    }
-    Ok(())
-}
 
 impl Tracker {
     /// The row of a step of a handshake of the node's listener, which took the oldest of what it was told or none, and
@@ -59,19 +47,7 @@ impl Tracker {
         ensures rest { OnOk result (self.new ≡ record self.old { told = self.new.told }) }
     {
         if ended {
-            self.end_all(queue, row)?;
-        }
-        Ok(())
-    }
-
-    // Ends all that stands in a queue.
-    fn end_all(&mut self, queue: Queue, row: &mut Row) -> Result<(), AllocError>
-        ensures row { OnOk result (row.new ≡ record row.old { ends = row.old.ends ++ left_ends (held self.old.told queue) }) }
-        ensures told { OnOk result ((q : Name) → held self.new.told q ≡ (if same_queue queue q then [] else held self.old.told q)) }
-        ensures rest { OnOk result (self.new ≡ record self.old { told = self.new.told }) }
-    {
-        if let Some(left) = self.told.take_all(queue) {
-            end_each(row, left)?;
+            self.end_queue(queue, row)?;
         }
         Ok(())
     }

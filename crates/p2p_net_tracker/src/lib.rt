@@ -11,6 +11,7 @@ pub mod heeding;
 pub mod naming;
 pub mod question;
 pub mod reading;
+pub mod stopping;
 pub mod telling;
 pub mod tracker;
 

@@ -147,8 +147,8 @@ impl<P: Drop> Messenger<P> {
         list.try_recv()
     }
 
-    // Removes the oldest message of the mailbox.
-    pub(crate) fn take(&mut self) -> Option<Message<P>>
+    /// Takes the oldest message of the mailbox. `None` exactly where none waits, also where there is no mailbox.
+    pub fn take(&mut self) -> Option<Message<P>>
         ensures value { result ≡ message_waiting self.old }
         ensures after { self.new ≡ message_taken self.old }
         ensures unchanged { IfNone result (self.new ≡ self.old) }

@@ -145,6 +145,14 @@ impl<P: PublicKey> Listener<P> {
         self.arrivals.push(Arrival { from, key, link })
     }
 
+    /// Takes all arrivals that wait, the oldest first.
+    pub fn take_arrivals(&mut self) -> Deque<Arrival<P>>
+        ensures arrivals { result ≡ self.old.arrivals }
+        ensures after { self.new ≡ record self.old { arrivals = [] } }
+    {
+        self.arrivals.take_all(self.alloc)
+    }
+
     /// Frees the place of a handshake that has ended. It takes no memory. A step that began a handshake has taken one.
     pub fn ended(&mut self)
         requires { 0 < self.old.places.held }

@@ -1,6 +1,6 @@
 use Rattle.std.proofs.Common.{◌≡◌, ◌++◌}
 use Rattle.p2p_log_rules.specs.Attempting.{left_ends}
-use Rattle.p2p_net_tracker.proofs.handshaking.end_each.Given as goal
+use Rattle.p2p_net_tracker.proofs.stopping.end_each.Given as goal
 
 -- what has ended so far, and then the rest
 abbrev pub invariant-loop-kept : goal.invariant-loop-kept
