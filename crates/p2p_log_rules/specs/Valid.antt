@@ -132,11 +132,11 @@ abbrev pub is_node : List Config → Option ℕ → Bool
 is_node configs None = false
 is_node configs (Some n) = nat_lt n (length configs)
 
--- an event names a node in range, and earlier events of the kind that it needs. None stops a node: the world does not do it yet
+-- an event names a node in range, and earlier events of the kind that it needs
 abbrev pub may_act : List Config → List Event → Act → Bool
 may_act configs events (act.Register c n rate) = nat_lt n (length configs) && may_register configs events c n rate
 may_act configs events (act.Start n) = nat_lt n (length configs) && not (has_started events n)
-may_act configs events (act.Stop by_start n) = false
+may_act configs events (act.Stop by_start n) = nat_lt n (length configs) && not (by_start && has_started events n)
 may_act configs events (act.Send bytes c n priority to) = nat_lt n (length configs)
 may_act configs events (act.Check c n to) = nat_lt n (length configs)
 may_act configs events (act.SendChecked bytes check priority) = is_node configs (checked_of (slice_get events check))

@@ -35,7 +35,7 @@ use Rattle.p2p_net_node.specs.declared.meeting.Meeting.TheVariants as meeting
 use Rattle.p2p_net_node.specs.Stands.{NodeStands, WorldStands}
 use Rattle.p2p_net_node.specs.declared.node.Node.{Node}
 use Rattle.p2p_net_node.proofs.Nodes.{slice_get-set, below}
-use Rattle.p2p_net_node.proofs.Frames.{lasts_unnamed, part_frame}
+use Rattle.p2p_net_node.proofs.Frames.{life_unnamed, part_frame}
 use Rattle.p2p_net_node.proofs.Performing.{asked, Performs, Simulates}
 use Rattle.p2p_net_dialing.proofs.DialAnswers.{refuse_performs}
 use Rattle.p2p_net_dialing.proofs.Arrivals.{link_simulates}
@@ -53,6 +53,7 @@ use Rattle.p2p_log_laws.proofs.HandedSides.{attempt_dialed, handshake_dialed}
 use Rattle.p2p_net_connecting.proofs.SpawnerStep.{spawner_performs}
 use Rattle.p2p_net_connecting.proofs.Stepping.{route_performs}
 use Rattle.p2p_net_dialing.proofs.Trying.{attempt_performs}
+use Rattle.p2p_net_calls.proofs.StopPerforms.{stop_performs}
 use Rattle.p2p_net_calls.proofs.Asking.{ask_performs, answer_performs, next_performs}
 use Rattle.p2p_net_connecting.proofs.TrackerStep.{tracker_performs}
 use Rattle.p2p_net_connecting.proofs.Sending.{send_step_performs}
@@ -73,7 +74,7 @@ pub node_performs : (configs : List Config) (log : List Entry) (moment seed : �
     → Performs configs log (asked moment seed a) (node_of log a) y links r
 node_performs configs log moment seed (act.Register c n rate) x y l links r s t lawful valid late one d = register_performs configs log moment seed n c rate x y l links r s t valid d.0 d.1
 node_performs configs log moment seed (act.Start n) x y l links r s t lawful valid late one d = start_performs configs log moment seed n x y l links r s t d.0 d.1
-node_performs configs log moment seed (act.Stop by_start n) x y l links r s t lawful valid late one d = cc
+node_performs configs log moment seed (act.Stop by_start n) x y l links r s t lawful valid late one d = stop_performs configs log moment seed by_start n x y l links r s t (Told-end configs (events_of log) log lawful).standing.fitting d
 node_performs configs log moment seed (act.Send bytes c n priority to) x y l links r s t lawful valid late one d =
     send_performs configs log moment seed n c bytes priority to x y l links r s t (lists_are_current configs (events_of log) log lawful) late d.1 d.0
 node_performs configs log moment seed (act.Check c n to) x y l links r s t lawful valid late one d =
@@ -84,7 +85,7 @@ node_performs configs log moment seed (act.SendStep conn n) x y l links r s t la
 node_performs configs log moment seed (act.RecvStep conn n) x y l links r s t lawful valid late one d = recv_step_performs configs log moment seed conn n x y l links r s t late (running_heard configs (events_of log) log lawful n conn) (Told-end configs (events_of log) log lawful).standing.fitting d
 node_performs configs log moment seed (act.Recv c n) x y l links r s t lawful valid late one d = read_performs configs log moment seed n c x y l links r s t d.0 d.1
 node_performs configs log moment seed (act.Close c n) x y l links r s t lawful valid late one d = close_performs configs log moment seed n c x y l links r s t d.0 d.1
-node_performs configs log moment seed (act.Ask what n) x y l links r s t lawful valid late one d = ask_performs configs log moment seed n what x y l links r s t d.0.0 d.0.1 d.1
+node_performs configs log moment seed (act.Ask what n) x y l links r s t lawful valid late one d = ask_performs configs log moment seed n what x y l links r s t d.0 d.1
 node_performs configs log moment seed (act.Answer e) x y l links r s t lawful valid late one d = answer_performs configs log moment seed e x y l links r s t valid d.0.0 d.0.1 d.1
 node_performs configs log moment seed (act.Next e) x y l links r s t lawful valid late one d = next_performs configs log moment seed e x y l links r s t valid d.0.0 d.0.1 d.1
 node_performs configs log moment seed (act.Tracker n) x y l links r s t lawful valid late one d = tracker_performs configs log moment seed n x y l links r s t (asks_run configs log n lawful) d.0 d.1
@@ -121,7 +122,7 @@ others_unnamed log a p m one ne = unnamed_at (names_links a) (parts_named a) p (
 -- a node that an act does not name
 node_frame : (configs : List Config) (log : List Entry) (ev : Event) (m : ℕ) (z : Node) → NodeStands configs log m z → ((p : Part) → names log ev.act (at p m) ≡ false) → is_begun log m (length log) ≡ false
     → NodeStands configs (log ++ effect configs log ev ∷ []) m z
-node_frame configs log ev m z s away fresh = record { own = s.own; lasts = lasts_unnamed configs log ev m s.lasts (away tracker); each = λ p. part_frame p configs log ev m z (s.each p) (away p) (λ makes. fresh) }
+node_frame configs log ev m z s away fresh = record { own = s.own; life = life_unnamed configs log ev m z.stopped s.life (away tracker); each = λ p. part_frame p configs log ev m z (s.each p) (away p) (λ makes. fresh) }
 
 one_each :
     (configs : List Config) (log : List Entry) (ev : Event) (nodes : List Node) (n : ℕ) (y : Node) (l links : Links) (r : Row) → WorldStands configs log nodes l → Performs configs log ev n y links r

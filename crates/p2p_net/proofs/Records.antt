@@ -17,6 +17,8 @@ use Rattle.p2p_log_rules.proofs.Lawful.{IsLawful-nil, IsLawful-append}
 use Rattle.p2p_net_links.specs.declared.links.Links.{Links}
 use Rattle.p2p_net_node.specs.declared.node.Node.{Node}
 use Rattle.p2p_net_node.specs.Ready as ready
+use Rattle.p2p_net_node.specs.Requested.{AreRequested}
+use Rattle.p2p_net_node.specs.declared.requested.Requested.{Requested}
 use Rattle.p2p_net_node.specs.Stands.{WorldStands}
 use Rattle.p2p_net.specs.World.{WorldView, KeptStands, IsRecorded}
 use Rattle.p2p_net.specs.Refusals.{ApplyRefused}
@@ -39,30 +41,39 @@ unfolding is_valid_event
 valid_act configs events v h = (and_parts (nat_le (latest_moment events) v.at) (may_act configs events v.act) h).1
 
 -- and it is not before the log
-pub moment_is_late : (configs : List Config) (log : List Entry) (nodes : List Node) (links : Links) (last : ℕ) (v : Event) → KeptStands configs log nodes links last → is_valid_event configs (events_of log) v ≡ true
+pub moment_is_late : (configs : List Config) (log : List Entry) (nodes : List Node) (rs : List Requested) (links : Links) (last : ℕ) (v : Event) → KeptStands configs log nodes rs links last → is_valid_event configs (events_of log) v ≡ true
     → latest_moment (events_of log) ≤ v.at
 unfolding is_valid_event
-moment_is_late configs log nodes links last v k valid =
+moment_is_late configs log nodes rs links last v k valid =
     by (latest_moment (events_of log)) v.at (and_parts (nat_le (latest_moment (events_of log)) v.at) (may_act configs (events_of log) v.act) valid).0
   where
     by : (latest at : ℕ) → nat_le latest at ≡ true → latest ≤ at
     by latest at after = grind (arith, nat_tests)
 
 -- what the code tests of an event
-pub tested : (configs : List Config) (log : List Entry) (nodes : List Node) (links : Links) (last : ℕ) (v : Event) → KeptStands configs log nodes links last → ready.may_apply nodes log last v ≡ is_valid_event configs (events_of log) v
+tested : (configs : List Config) (log : List Entry) (nodes : List Node) (rs : List Requested) (links : Links) (last : ℕ) (v : Event) → KeptStands configs log nodes rs links last → ready.may_apply nodes rs log last v ≡ is_valid_event configs (events_of log) v
 unfolding is_valid_event
-tested configs log nodes links last v k =
-    ap (λ m. nat_le m v.at && ready.may_act nodes log v.act) k.last_is
-    ∙ ap (λ b. nat_le (latest_moment (events_of log)) v.at && b) (may_act-nodes configs log nodes links v.act k.world)
+tested configs log nodes rs links last v k =
+    ap (λ m. nat_le m v.at && ready.may_act nodes rs log v.act) k.last_is
+    ∙ ap (λ b. nat_le (latest_moment (events_of log)) v.at && b) (may_act-nodes configs log nodes links rs v.act k.world k.requested)
+
+-- of these nodes and requests
+pub tested_of : (configs : List Config) (log : List Entry) (nodes ns : List Node) (rs qs : List Requested) (links : Links) (last : ℕ) (v : Event) → KeptStands configs log nodes rs links last → ns ≡ nodes → qs ≡ rs
+    → ready.may_apply ns qs log last v ≡ is_valid_event configs (events_of log) v
+tested_of configs log nodes ns rs qs links last v k same alike =
+    ap (λ l. ready.may_apply l qs log last v) same ∙ (ap (λ l. ready.may_apply nodes l log last v) alike ∙ tested configs log nodes rs links last v k)
+
+events_of-effect : (configs : List Config) (log : List Entry) (v : Event) → events_of (log ++ effect configs log v ∷ []) ≡ events_of log ++ v ∷ []
+events_of-effect configs log v = events_of-append log (effect configs log v) ∙ ap (λ e. events_of log ++ e ∷ []) (event-effect configs log v)
 
 -- a world whose log has one more entry, and that was the last moment
-pub kept_more : (configs : List Config) (log later : List Entry) (nodes : List Node) (links : Links) (v : Event) → IsLawful configs (events_of log) log → latest_moment (events_of log) ≤ v.at → later ≡ log ++ effect configs log v ∷ [] → WorldStands configs later nodes links
-    → KeptStands configs later nodes links v.at
-kept_more configs log later nodes links v lawful late is s = record {
+pub kept_more : (configs : List Config) (log later : List Entry) (nodes : List Node) (rs : List Requested) (links : Links) (v : Event) → IsLawful configs (events_of log) log → latest_moment (events_of log) ≤ v.at → AreRequested configs (events_of log ++ v ∷ []) rs
+    → later ≡ log ++ effect configs log v ∷ [] → WorldStands configs later nodes links → KeptStands configs later nodes rs links v.at
+kept_more configs log later nodes rs links v lawful late requested is s = record {
   world = s;
+  requested = subst (λ l. AreRequested configs (events_of l) rs) (sym is) (subst (λ l. AreRequested configs l rs) (sym (events_of-effect configs log v)) requested);
   lawful = subst (λ l. IsLawful configs (events_of l) l) (sym is)
-      (subst (λ l. IsLawful configs l (log ++ effect configs log v ∷ [])) (sym (events_of-append log (effect configs log v) ∙ ap (λ e. events_of log ++ e ∷ []) (event-effect configs log v)))
-      (IsLawful-append configs (events_of log) log v lawful));
+      (subst (λ l. IsLawful configs l (log ++ effect configs log v ∷ [])) (sym (events_of-effect configs log v)) (IsLawful-append configs (events_of log) log v lawful));
   last_is =
       let grown : latest_moment (events_of later) ≡ max (latest_moment (events_of log)) v.at =
       ap (λ l. latest_moment (events_of l)) is
@@ -93,9 +104,10 @@ pub stands_new : (configs kept : List Config) (log : List Entry) (nodes : List N
 stands_new configs kept log nodes links same none bare s =
     subst (λ c. WorldStands c log nodes links) (sym same) (subst (λ l. WorldStands configs l nodes links) (sym none) (subst (WorldStands configs [] nodes) (sym bare) s))
 
-pub kept_new : (configs : List Config) (log : List Entry) (nodes : List Node) (links : Links) → log ≡ [] → WorldStands configs log nodes links → KeptStands configs log nodes links 0
-kept_new configs log nodes links none s = record {
+pub kept_new : (given configs : List Config) (log : List Entry) (nodes : List Node) (rs : List Requested) (links : Links) → configs ≡ given → log ≡ [] → WorldStands configs log nodes links → AreRequested given [] rs → KeptStands configs log nodes rs links 0
+kept_new given configs log nodes rs links same none s requested = record {
   world = s;
+  requested = subst (λ l. AreRequested configs (events_of l) rs) (sym none) (subst (λ c. AreRequested c [] rs) (sym same) requested);
   lawful = subst (λ l. IsLawful configs (events_of l) l) (sym none) (IsLawful-nil configs);
   last_is = sym (ap (λ l. latest_moment (events_of l)) none);
 }

@@ -8,7 +8,6 @@ use Rattle.p2p_log_rules.specs.Effect.{only}
 use Rattle.p2p_net_queues.specs.Tables as table
 use Rattle.p2p_net_links.specs.declared.links.Links.{Links}
 use Rattle.p2p_net_gates.specs.Attempts.{Resolves, AnswersDial}
-use Rattle.p2p_net_tracker.specs.Asking.{ask_answer, after_asking}
 use Rattle.p2p_net_tracker.specs.Reading.{Answers, Continues}
 use Rattle.p2p_net_tracker.specs.declared.tracker.Tracker.{Tracker}
 use Rattle.p2p_net_node.specs.Staying.{Stays, Tracks, TellsAttempt}
@@ -17,7 +16,8 @@ use Rattle.p2p_net_node.specs.Ready.{is_started}
 use Rattle.p2p_net_calls.specs.Offering.{Sends, Checks, SendsChecked}
 use Rattle.p2p_net_connecting.specs.Receiving.{RecvSteps}
 use Rattle.p2p_net_node.specs.declared.node.Node.{Node}
-use Rattle.p2p_net_calls.specs.Calls.{Registers, Starts, Reads, Closes}
+use Rattle.p2p_net_calls.specs.Stopping.{Stops}
+use Rattle.p2p_net_calls.specs.Calls.{Registers, Starts, Reads, Closes, Asks}
 use Rattle.p2p_net_connecting.specs.Steps.{Routes, TrackerStepsBy, SpawnerStepsBy}
 use Rattle.p2p_net_dialing.specs.Dialing.{DialerStepsBy, ListenerStepsBy, HandshakeSteps, AttemptSteps}
 
@@ -25,7 +25,7 @@ use Rattle.p2p_net_dialing.specs.Dialing.{DialerStepsBy, ListenerStepsBy, Handsh
 abbrev pub NodeDoes : ℕ → ℕ → ℕ → ℕ → Act → Node → Node → Links → Links → Row → Type 0
 NodeDoes k n at seed (act.Register c m rate) old new l links r = Registers c rate old new r × (links ≡ l)
 NodeDoes k n at seed (act.Start m) old new l links r = Starts k at old new r × (links ≡ l)
-NodeDoes k n at seed (act.Stop by_start m) old new l links r = Stays old new r (only reply.Idle) × (links ≡ l)
+NodeDoes k n at seed (act.Stop by_start m) old new l links r = Stops n old.stopped old new l links r
 NodeDoes k n at seed (act.Send bytes c m priority to) old new l links r = Sends k c at priority bytes to old new r × (links ≡ l)
 NodeDoes k n at seed (act.Check c m to) old new l links r = Checks k c at to old new r × (links ≡ l)
 NodeDoes k n at seed (act.SendChecked bytes check priority) old new l links r = SendsChecked k check priority bytes old new r × (links ≡ l)
@@ -37,9 +37,9 @@ NodeDoes k n at seed (act.Close c m) old new l links r = Closes c old new r × (
 NodeDoes k n at seed (act.Connect e from m to) old new l links r = Stays old new r (only reply.Idle) × (links ≡ l)
 NodeDoes k n at seed (act.Finish link ok) old new l links r = Stays old new r (only reply.Idle) × (links ≡ l)
 NodeDoes k n at seed (act.Cut link) old new l links r = Stays old new r (only reply.Idle) × (links ≡ l)
-NodeDoes k n at seed (act.Ask what m) old new l links r = ((r ≡ ask_answer old.tracker n k what) × Tracks (after_asking old.tracker k what) old new) × (links ≡ l)
-NodeDoes k n at seed (act.Answer e) old new l links r = (Answers n e old.tracker new.tracker r × Tracks new.tracker old new) × (links ≡ l)
-NodeDoes k n at seed (act.Next e) old new l links r = (Continues n e old.tracker new.tracker r × Tracks new.tracker old new) × (links ≡ l)
+NodeDoes k n at seed (act.Ask what m) old new l links r = Asks n k what old new r × (links ≡ l)
+NodeDoes k n at seed (act.Answer e) old new l links r = (Answers old.stopped n e old.tracker new.tracker r × Tracks new.tracker old new) × (links ≡ l)
+NodeDoes k n at seed (act.Next e) old new l links r = (Continues old.stopped n e old.tracker new.tracker r × Tracks new.tracker old new) × (links ≡ l)
 NodeDoes k n at seed (act.Tracker m) old new l links r = TrackerStepsBy (is_started old) k n at seed old new r × (links ≡ l)
 NodeDoes k n at seed (act.Dialer m) old new l links r = DialerStepsBy (is_started old) k n at seed old new r × (links ≡ l)
 NodeDoes k n at seed (act.Listener m) old new l links r = ListenerStepsBy (is_started old) k n at old new l links r

@@ -3,6 +3,7 @@
 #![tactic(auto)]
 
 mod applying;
+mod asking;
 mod error;
 mod events;
 mod naming;

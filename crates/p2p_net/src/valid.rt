@@ -1,22 +1,22 @@
 //! Whether an event may be asked for, after those before it.
 ghost use Rattle.std.specs.Prelude.{◌≡◌, ◌&&◌, slice_get, nat_le};
-ghost use Rattle.p2p_net_node.specs.Ready.{names_spawner, names_dialer, names_listener, links_attempt, checks as checks_test, asks_set as asks_set_test, subscribes as subscribes_test, may_register as may_register_test, may_ask as may_ask_test, may_act as may_act_test};
+ghost use Rattle.p2p_net_node.specs.Ready.{names_spawner, names_dialer, names_listener, links_attempt, checks as checks_test, asks_set as asks_set_test, subscribes as subscribes_test, may_register as may_register_test, may_ask as may_ask_test, may_at, may_act as may_act_test};
 
 use crate::naming::{node_of, other_of};
 use p2p_log::{Act, Asked, Entry, Event, Rate};
-use p2p_net_node::Node;
+use p2p_net_node::{Node, Requested};
 
-/// Whether a channel may be registered at a node: it has not started, the channel is new, its quota admits something,
+/// Whether a channel may be registered at a node: it was not asked to start, the channel is new, its quota admits something,
 /// sometimes, and what it would hold can be counted.
-fn may_register(node: &Node, channel: u64, quota: Rate) -> bool
-    ensures { result ≡ may_register_test node.now channel quota }
+fn may_register(node: &Node, requested: &Requested, channel: u64, quota: Rate) -> bool
+    ensures { result ≡ may_register_test node.now requested.now channel quota }
 {
     let capacity = node.retained as u128 * quota.burst as u128;
     let most = usize::MAX as u128;
-    ((!node.is_started() && !node.channels.capacities.has(channel))
+    ((!requested.started && !requested.capacities.has(channel))
         && (0 < quota.burst && 0 < quota.period))
         && (capacity <= most
-            && node.config.mailbox_size as u128 + (node.channels.total as u128 + capacity) <= most)
+            && node.config.mailbox_size as u128 + (requested.total as u128 + capacity) <= most)
 }
 
 /// Whether the entry of this number is of a step of a node's spawner.
@@ -104,14 +104,14 @@ fn is_linked(log: &[Entry], link: u64) -> bool
     }
 }
 
-/// Whether a node may be asked for an act, after these entries.
-fn may_ask(log: &[Entry], node: &Node, act: &Act) -> bool
-    ensures { result ≡ may_ask_test log.now node.now act.now }
+/// Whether a node may be asked for an act, after these entries and by what was requested of it so far.
+fn may_ask(log: &[Entry], node: &Node, requested: &Requested, act: &Act) -> bool
+    ensures { result ≡ may_ask_test log.now node.now requested.now act.now }
 {
     match act {
-        Act::Register { channel, quota, .. } => may_register(node, *channel, *quota),
-        Act::Start { .. } => !node.is_started(),
-        Act::Stop { .. } => false,
+        Act::Register { channel, quota, .. } => may_register(node, requested, *channel, *quota),
+        Act::Start { .. } => !requested.started,
+        Act::Stop { by_start, .. } => !(*by_start && requested.started),
         Act::SendChecked { check, .. } => checks(log, *check),
         Act::SendStep { conn, node } => is_spawned(log, *conn, *node),
         Act::RecvStep { conn, node } => is_spawned(log, *conn, *node),
@@ -128,20 +128,45 @@ fn may_ask(log: &[Entry], node: &Node, act: &Act) -> bool
     }
 }
 
+/// Whether the node of this number is there, and may be asked for an act.
+fn may_ask_at(
+    nodes: &[Node],
+    requested: &[Requested],
+    log: &[Entry],
+    number: u64,
+    act: &Act,
+) -> bool
+    ensures { result ≡ may_at (slice_get nodes.now number) (slice_get requested.now number) log.now act.now }
+{
+    match nodes.get(number as usize) {
+        Some(node) => match requested.get(number as usize) {
+            Some(requested) => may_ask(log, node, requested, act),
+            None => false,
+        },
+        None => false,
+    }
+}
+
 /// Whether the nodes that an act names are there, and the first may be asked for it.
-fn may_act(nodes: &[Node], log: &[Entry], act: &Act) -> bool
-    ensures { result ≡ may_act_test nodes.now log.now act.now }
+fn may_act(nodes: &[Node], requested: &[Requested], log: &[Entry], act: &Act) -> bool
+    ensures { result ≡ may_act_test nodes.now requested.now log.now act.now }
 {
     let count = nodes.len() as u64;
     let number = node_of(log, act);
     number < count
         && other_of(log, number, act) < count
-        && may_ask(log, &nodes[number as usize], act)
+        && may_ask_at(nodes, requested, log, number, act)
 }
 
 /// Whether an event may be asked for after these entries, of which the last was at the moment `last`.
-pub(crate) fn is_valid(nodes: &[Node], log: &[Entry], last: u64, event: &Event) -> bool
-    ensures { result ≡ (nat_le last event.now.at && may_act_test nodes.now log.now event.now.act) }
+pub(crate) fn is_valid(
+    nodes: &[Node],
+    requested: &[Requested],
+    log: &[Entry],
+    last: u64,
+    event: &Event,
+) -> bool
+    ensures { result ≡ (nat_le last event.now.at && may_act_test nodes.now requested.now log.now event.now.act) }
 {
-    last <= event.at && may_act(nodes, log, &event.act)
+    last <= event.at && may_act(nodes, requested, log, &event.act)
 }

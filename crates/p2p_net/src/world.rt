@@ -16,6 +16,7 @@ ghost use Rattle.p2p_net.specs.World.{IsRecorded, Stands};
 ghost use Rattle.p2p_net.specs.Refusals.{StartRefused, ApplyRefused, RunRefused};
 ghost use Rattle.p2p_net.specs.declared.error.RunError.TheVariants as error;
 
+use crate::asking::{new_requests, note};
 use crate::error::RunError;
 use crate::events::perform;
 use crate::naming::node_of;
@@ -23,7 +24,7 @@ use crate::valid::is_valid;
 use p2p_base::List;
 use p2p_log::{Config, Entry, Event, Report};
 use p2p_net_links::Links;
-use p2p_net_node::{Node, config_fault};
+use p2p_net_node::{Node, Requested, config_fault};
 use std::alloc::{AllocError, Global};
 use std::marker::Model;
 
@@ -34,6 +35,7 @@ pub struct World {
     alloc: Global,
     configs: List<Config>,
     nodes: Vec<Node>,
+    requested: Vec<Requested>,
     links: Links,
     report: Report,
     last: u64,
@@ -46,6 +48,7 @@ impl Drop for World {
             alloc: _alloc,
             configs: _configs,
             nodes: _nodes,
+            requested: _requested,
             links: _links,
             report: _report,
             last: _last,
@@ -66,7 +69,7 @@ impl Model for World {
 
     ghost view = { λ w. record { configs = w.configs; nodes = w.nodes.items; links = w.links; log = w.report.log; failed = w.failed } };
 
-    ghost invariant = { λ w. w.failed ≡ false → KeptStands w.configs w.report.log w.nodes.items w.links w.last };
+    ghost invariant = { λ w. w.failed ≡ false → KeptStands w.configs w.report.log w.nodes.items w.requested.items w.links w.last };
 }
 
 /// Asks for one event that may be asked for, and records what came of it.
@@ -92,11 +95,17 @@ fn record(
 }
 
 /// Whether an event may be asked for, and else its place.
-fn allow(nodes: &[Node], report: &Report, last: u64, event: &Event) -> Result<(), RunError>
-    ensures ok { OnOk result (may_apply nodes.now report.now.log last event.now ≡ true) }
-    ensures err { IfErr result (λ e. (e ≡ RunError.Event (length report.now.log)) × (may_apply nodes.now report.now.log last event.now ≡ false)) }
+fn allow(
+    nodes: &[Node],
+    requested: &[Requested],
+    report: &Report,
+    last: u64,
+    event: &Event,
+) -> Result<(), RunError>
+    ensures ok { OnOk result (may_apply nodes.now requested.now report.now.log last event.now ≡ true) }
+    ensures err { IfErr result (λ e. (e ≡ RunError.Event (length report.now.log)) × (may_apply nodes.now requested.now report.now.log last event.now ≡ false)) }
 {
-    if !is_valid(nodes, report.log.as_slice(), last, event) {
+    if !is_valid(nodes, requested, report.log.as_slice(), last, event) {
         return Err(RunError::Event(report.log.len()));
     }
     Ok(())
@@ -131,11 +140,13 @@ impl World {
             return Err(RunError::Config(place));
         }
         let nodes = new_nodes(alloc, configs)?;
+        let requested = new_requests(alloc, configs)?;
         let kept = List::from_slice(alloc, configs)?;
         Ok(World {
             alloc,
             configs: kept,
             nodes,
+            requested,
             links: Links::new(alloc),
             report: Report {
                 log: List::empty(alloc),
@@ -162,8 +173,20 @@ impl World {
         if self.failed {
             return Err(RunError::Memory);
         }
-        allow(self.nodes.as_slice(), &self.report, self.last, event)?;
+        allow(
+            self.nodes.as_slice(),
+            self.requested.as_slice(),
+            &self.report,
+            self.last,
+            event,
+        )?;
         self.failed = true;
+        note(
+            self.nodes.as_slice(),
+            &mut self.requested,
+            self.report.log.as_slice(),
+            event,
+        )?;
         record(
             self.alloc,
             &mut self.nodes,

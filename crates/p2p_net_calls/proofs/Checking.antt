@@ -16,7 +16,7 @@ use Rattle.p2p_log.specs.declared.event.Event.{Event}
 use Rattle.p2p_log.specs.declared.event.Recipients.{Recipients}
 use Rattle.p2p_log.specs.declared.event.Act.{Act}
 use Rattle.p2p_log.specs.declared.event.Act.TheVariants as act
-use Rattle.p2p_log.specs.Lines.{stays, stands_in, live, line}
+use Rattle.p2p_log.specs.Lines.{stays, stands_in, live, line, goes}
 use Rattle.p2p_log.proofs.Lines.{filter_stays-nil}
 use Rattle.p2p_log_rules.proofs.Connections.{ends_untold}
 use Rattle.p2p_log_rules.specs.declared.row.Checked.{Checked}
@@ -24,8 +24,8 @@ use Rattle.p2p_log_rules.specs.declared.row.Row.{Row}
 use Rattle.p2p_log_rules.specs.Admitting.{offered, keys_admitted, retry_moment}
 use Rattle.p2p_log_rules.specs.Checking.{Check, check_of, admitted_at, checked_at}
 use Rattle.p2p_log_rules.specs.Frames.{frame_of}
-use Rattle.p2p_log_rules.specs.Facts.{events_of, latest_moment, is_up}
-use Rattle.p2p_log_rules.specs.Effect.{only, taking, takes_list, row, effect, entry_of, checked_row, sent_row, spent_row, router_capacity, limit_at, fitting_row}
+use Rattle.p2p_log_rules.specs.Facts.{events_of, latest_moment, is_up, is_stopped}
+use Rattle.p2p_log_rules.specs.Effect.{only, unless_stopped, taking, takes_list, row, effect, entry_of, checked_row, sent_row, spent_row, router_capacity, limit_at, fitting_row}
 use Rattle.p2p_log_rules.specs.Told.{check_tells}
 use Rattle.p2p_log_rules.proofs.Checks.{checked_at-made, checked_at-unmade, checked_at-spent}
 use Rattle.p2p_log_rules.proofs.Sends.{Asks, sent_moments-apart, sent_moments-asked}
@@ -36,7 +36,7 @@ use Rattle.p2p_net_router.specs.Stands.{StandsFor, StandsOver}
 use Rattle.p2p_net_router.specs.declared.router.Router.{Router}
 use Rattle.p2p_net_router.specs.declared.telling.Telling.TheVariants as telling
 use Rattle.p2p_net_router.proofs.Aside.{line_is}
-use Rattle.p2p_net_router.proofs.Over.{over_gone, over_taking, sent_takes}
+use Rattle.p2p_net_router.proofs.Over.{over_taking, sent_takes}
 use Rattle.p2p_net_router.proofs.Unrouted.{unrouted_apart}
 use Rattle.p2p_net_channels.specs.declared.channels.Channels.{Channels}
 use Rattle.p2p_net_channels.specs.Channels.{capacity_at}
@@ -47,17 +47,18 @@ use Rattle.p2p_net_channels.proofs.Senders.{channels_asked, channels_spent}
 use Rattle.p2p_net_links.specs.Stands.{LinksStand}
 use Rattle.p2p_net_links.specs.declared.links.Links.{Links}
 use Rattle.p2p_net_queues.specs.Tables as table
-use Rattle.p2p_net_calls.specs.Offering.{is_refused, listed, FollowsOn, SendsBy, NotesCheck, Checks, with_checks, SpendsCheck, SendsChecked}
+use Rattle.p2p_net_calls.specs.Offering.{is_refused, listed, FollowsOn, HandsBy, SendsBy, NotesCheck, Checks, with_checks, SpendsCheck, SendsChecked}
 use Rattle.p2p_net_node.specs.Places as place
 use Rattle.p2p_net_node.specs.Places.{node_checking}
-use Rattle.p2p_net_node.specs.Stands.{RouterStands, NodeStands}
+use Rattle.p2p_net_node.specs.Stands.{RouterStands, RouterLives, NodeStands}
 use Rattle.p2p_net_node.specs.declared.node.Node.{Node}
 use Rattle.p2p_net_calls.specs.declared.offers.Offered.{Offered}
 use Rattle.p2p_net_node.proofs.EachPart.{not_among}
-use Rattle.p2p_net_calls.proofs.Messages.{channels_unasked, IsOffered, is_offered, named, built}
+use Rattle.p2p_net_calls.proofs.Messages.{RouterOver, IsAside, nothing_gone, lives_idle, channels_unasked, IsOffered, is_offered, named, built}
 use Rattle.p2p_net_node.proofs.Performing.{asked, Performs, effect-still}
 use Rattle.p2p_net_node.proofs.Receivers.{admits_apart, closes_apart, checking_is}
-use Rattle.p2p_net_node.proofs.Routers.{hears_aside, RouterStands-moved, RouterStands-idle}
+use Rattle.p2p_net_node.proofs.Routers.{hears_aside, RouterStands-moved}
+use Rattle.p2p_net_node.proofs.Frames.{lives_on, lasts_after}
 
 same_number : (n : ℕ) → (n == n) ≡ true
 same_number n = grind (arith, nat_tests)
@@ -94,11 +95,19 @@ module _ (configs : List Config) (log : List Entry) (at seed n c : ℕ) (to : Re
   chan : ChannelsStand configs log n x.channels
   chan = s.each place.channels
 
-  routes : RouterStands configs log n x.router
-  routes = s.each place.router
+  lives : RouterLives configs log n x.router
+  lives = s.each place.router
 
-  done : (ch : Channels) (router : Router) → r ≡ row configs log at seed a → y ≡ record x { channels = ch; router = router } → ChannelsStand configs (log ++ e ∷ []) n ch → RouterStands configs (log ++ e ∷ []) n router → Done
+  done : (ch : Channels) (router : Router) → r ≡ row configs log at seed a → y ≡ record x { channels = ch; router = router } → ChannelsStand configs (log ++ e ∷ []) n ch → RouterLives configs (log ++ e ∷ []) n router → Done
   done ch router = built configs log ev n x y l links r ch router s t kept (λ p out. not_among named p n n out) refl refl refl
+
+  aside : IsAside configs log e n
+  unfolding effect
+  aside = record {
+    beside = λ m. record { no_step = unrouted_apart log e m refl; no_channel = refl; no_turn = refl; no_end = λ conn. ends_untold log e m conn a refl refl };
+    hears = hears_aside log e n a refl refl;
+    goes_on = refl;
+  }
 
   -- on a channel that is not registered
   gone : capacity_at x.channels c ≡ None → row configs log at seed a ≡ only reply.Gone → r ≡ only reply.Gone → y ≡ x → Done
@@ -108,7 +117,7 @@ module _ (configs : List Config) (log : List Entry) (at seed n c : ℕ) (to : Re
       done x.channels x.router (told ∙ sym is) same
       (channels_unasked configs log e n c to x.channels chan refl (sent_moments-asked log e n c to (Asks.checks refl)) (admits_apart configs log e n a refl (λ d. refl)) (λ d. line-untouched configs log ev (queue.Channel n d) refl refl refl)
       (λ name. checked_at-unmade log e n name c n to refl (ap (λ (z : Row). check_tells n (length log) c z.reply) is)) (closes_apart log e n a refl refl) has)
-      (RouterStands-idle configs log e n x.router (record { no_step = unrouted_apart log e n refl; no_channel = refl; no_turn = refl; no_end = λ conn. ends_untold log e n conn a refl refl }) (hears_aside log e n a refl refl) still.takes still.puts still.ends routes)
+      (lives_idle configs log e n x.router x.router [] lives (nothing_gone configs log n x.router lives) aside (ap (λ (z : Row). goes (entry_of ev z)) is) still.puts)
 
   -- the channels, whose quota was asked, with these checks
   channels_now : (m : List (ℕ × Checked)) → ((name : ℕ) → table.at m name ≡ checked_at (log ++ e ∷ []) n name) → ChannelsStand configs (log ++ e ∷ []) n (record (keys_metered c keys at x.channels) { checks = m })
@@ -118,21 +127,17 @@ module _ (configs : List Config) (log : List Entry) (at seed n c : ℕ) (to : Re
       checks (closes_apart log e n a refl refl) c at to (sent_moments-asked log e n c to (Asks.checks refl)) refl late
 
   -- the router, of which at most a list was taken
-  router_now : (rep : Reply) (new : Router) → row configs log at seed a ≡ taking names (only rep) → StandsOver configs log new (filter (stays names) (live log))
-      → new.number ≡ x.router.number → new.peers ≡ x.router.peers → RouterStands configs (log ++ e ∷ []) n new
+  router_now : (rep : Reply) (new : Router) → row configs log at seed a ≡ taking names (only rep) → RouterOver configs log n x.router new names → RouterLives configs (log ++ e ∷ []) n new
   unfolding effect
-  router_now rep new is over number peers =
-      RouterStands-moved configs log e n x.router new routes (hears_aside log e n a refl refl)
-      (subst (λ (z : Row). StandsFor configs (log ++ entry_of ev z ∷ []) new) (sym is)
-      (over_gone configs log (entry_of ev (taking names (only rep))) new names over (record { no_step = unrouted_apart log (entry_of ev (taking names (only rep))) new.number refl; no_channel = refl; no_turn = refl; no_end = λ conn. ends_untold log (entry_of ev (taking names (only rep))) new.number conn a refl refl }) (append-nil names) refl))
-      number peers
+  router_now rep new is left =
+      lives_idle configs log e n x.router new names lives left aside (ap (λ (z : Row). goes (entry_of ev z)) is ∙ append-nil names) (ap (λ (z : Row). z.puts) is)
 
   module _ (mid : Node) (o : Offered) (row_now : Row) (h : IsOffered configs log n c at to x mid o) (is : r ≡ listed o.list row_now) where
     row_listed : (inner : Row) → row_now ≡ inner → r ≡ taking names inner
     row_listed inner same = is ∙ (ap (λ (z : List (ℕ × ℕ)). taking z row_now) h.names ∙ ap (taking names) same)
 
-    router_mid : (rep : Reply) → row configs log at seed a ≡ taking names (only rep) → RouterStands configs (log ++ e ∷ []) n mid.router
-    router_mid rep due = router_now rep mid.router due h.over (h.number ∙ sym routes.number) h.peers
+    router_mid : (rep : Reply) → row configs log at seed a ≡ taking names (only rep) → RouterLives configs (log ++ e ∷ []) n mid.router
+    router_mid rep due = router_now rep mid.router due h.over
 
     -- what is admitted waits
     noted : (ks : List Key) → row configs log at seed a ≡ taking names (only (reply.Checked ks)) → ks ≡ o.admitted → NotesCheck false (length log) c o mid y row_now → Done
@@ -194,15 +199,23 @@ module _ (configs : List Config) (log : List Entry) (at seed check : ℕ) (bytes
   chan_then : ChannelsStand configs log n x.channels
   chan_then = s.each place.channels
 
-  routes_then : RouterStands configs log n x.router
-  routes_then = s.each place.router
+  lives_then : RouterLives configs log n x.router
+  lives_then = s.each place.router
 
   limit_is : x.config.max_message_size ≡ limit_at configs n
   limit_is = sym (ap (λ (o : Option Config). elim o [ None ↦ 0 | Some c ↦ c.max_message_size ]) s.own.config)
 
-  done_with : (ch : Channels) (router : Router) → r ≡ row configs log at seed spends → y ≡ record x { channels = ch; router = router } → ChannelsStand configs (log ++ entry ∷ []) n ch → RouterStands configs (log ++ entry ∷ []) n router
+  done_with : (ch : Channels) (router : Router) → r ≡ row configs log at seed spends → y ≡ record x { channels = ch; router = router } → ChannelsStand configs (log ++ entry ∷ []) n ch → RouterLives configs (log ++ entry ∷ []) n router
       → Performs configs log spent n y links r
   done_with ch router = built configs log spent n x y l links r ch router s t kept (λ p out. not_among named p n n out) refl refl refl
+
+  aside_then : IsAside configs log entry n
+  unfolding effect
+  aside_then = record {
+    beside = λ m. record { no_step = unrouted_apart log entry m refl; no_channel = refl; no_turn = refl; no_end = λ conn. ends_untold log entry m conn spends refl refl };
+    hears = hears_aside log entry n spends refl refl;
+    goes_on = refl;
+  }
 
   module _ (left : List (ℕ × Checked)) (gone : table.AreBut check None x.channels.checks left) where
     abbrev mid : Node
@@ -226,7 +239,7 @@ module _ (configs : List Config) (log : List Entry) (at seed check : ℕ) (bytes
     unsent rep due told same =
         let still = effect-still configs log spent rep due in
         done_with (record x.channels { checks = left }) x.router (told ∙ sym due) same channels_then
-        (RouterStands-idle configs log entry n x.router (record { no_step = unrouted_apart log entry n refl; no_channel = refl; no_turn = refl; no_end = λ conn. ends_untold log entry n conn spends refl refl }) (hears_aside log entry n spends refl refl) still.takes still.puts still.ends routes_then)
+        (lives_idle configs log entry n x.router x.router [] lives_then (nothing_gone configs log n x.router lives_then) aside_then (ap (λ (z : Row). goes (entry_of spent z)) due) still.puts)
 
     module _ (c : Checked) where
       abbrev accepted : Reply
@@ -238,15 +251,17 @@ module _ (configs : List Config) (log : List Entry) (at seed check : ℕ) (bytes
       abbrev handed : Row
       handed = sent_row accepted rejected (is_up log n) (nat_le (router_capacity configs log n) (length (line log (queue.Router n)))) n (length log) c.channel priority (frame_of c.channel bytes) c.keys
 
-      by_size : (b : Bool) → nat_lt mid.config.max_message_size (length bytes) ≡ b
-          → row configs log at seed spends ≡ fitting_row (nat_lt (limit_at configs n) (length bytes)) (length bytes) (limit_at configs n) handed
-          → SendsBy b telling.Outcome (length log) c.channel priority bytes c.keys mid y r → Performs configs log spent n y links r
+      abbrev closed : Reply
+      closed = reply.Outcome (Outcome feedback.Closed) n c.channel c.keys
+
+      -- by whether the node has stopped
+      handed_by : (b : Bool) → is_stopped log n ≡ b → row configs log at seed spends ≡ unless_stopped log n closed handed → HandsBy b telling.Outcome (length log) c.channel priority bytes c.keys mid y r → Performs configs log spent n y links r
       unfolding effect
-      by_size true long due d =
-          unsent (reply.MessageTooLarge (length bytes) mid.config.max_message_size)
-          (due ∙ (ap (λ m. fitting_row (nat_lt m (length bytes)) (length bytes) m handed) (sym limit_is) ∙ ap (λ b. fitting_row b (length bytes) mid.config.max_message_size handed) long)) d.0 d.1
-      by_size false short due d =
+      handed_by true over due d =
+          unsent closed (due ∙ ap (λ b. cond b (only closed) handed) over) (d.0 ∙ ap (λ m. only (reply.Outcome (Outcome feedback.Closed) m c.channel c.keys)) lives_then.number) d.1
+      handed_by false lasts due d =
           let calls = d.1 in
+          let routes_then : RouterStands configs log n x.router = lives_then.runs lasts in
           let over : StandsOver configs log x.router (filter (stays []) (live log)) = subst (StandsOver configs log x.router) (sym (filter_stays-nil (live log))) routes_then.stands in
           let mailbox : ℕ → Row = λ m. sent_row (reply.Outcome (Outcome feedback.Ok) m c.channel c.keys) (reply.Outcome Rejected m c.channel c.keys)
           (is_up log m) (nat_le (router_capacity configs log m) (length (filter (stands_in (queue.Router m)) (live log)))) m (length log) c.channel priority (frame_of c.channel bytes) c.keys
@@ -256,9 +271,7 @@ module _ (configs : List Config) (log : List Entry) (at seed check : ℕ) (bytes
           ∙ (ap mailbox routes_then.number
           ∙ ap (λ q. sent_row accepted rejected (is_up log n) (nat_le (router_capacity configs log n) (length q)) n (length log) c.channel priority (frame_of c.channel bytes) c.keys) (line_is log (queue.Router n)))
           in
-          let due_now : row configs log at seed spends ≡ handed =
-          due ∙ (ap (λ m. fitting_row (nat_lt m (length bytes)) (length bytes) m handed) (sym limit_is) ∙ ap (λ b. fitting_row b (length bytes) mid.config.max_message_size handed) short)
-          in
+          let due_now : row configs log at seed spends ≡ handed = due ∙ ap (λ b. cond b (only closed) handed) lasts in
           let takes : handed.takes ≡ [] =
           sent_takes accepted rejected (is_up log n) (nat_le (router_capacity configs log n) (length (line log (queue.Router n)))) n (length log) c.channel priority (frame_of c.channel bytes) c.keys
           in
@@ -267,10 +280,26 @@ module _ (configs : List Config) (log : List Entry) (at seed check : ℕ) (bytes
           in
           let same_row : taking [] handed ≡ handed = ap (λ (z : List (ℕ × ℕ)). record handed { takes = z }) (sym takes) in
           done_with (record x.channels { checks = left }) y.router (row_is ∙ sym due_now) d.0 channels_then
-          (RouterStands-moved configs log entry n x.router y.router routes_then (hears_aside log entry n spends refl refl)
+          (lives_on configs (log ++ entry ∷ []) n y.router (lasts_after configs log spent n lasts refl)
+          (RouterStands-moved configs log entry n x.router y.router routes_then aside_then.hears
           (subst (λ (z : Row). StandsFor configs (log ++ entry_of spent z ∷ []) y.router) (same_row ∙ sym due_now)
           (over_taking configs log spent y.router [] handed over_now (record { no_step = unrouted_apart log (entry_of spent (taking [] handed)) y.router.number refl; no_channel = refl; no_turn = refl; no_end = λ conn. ends_untold log (entry_of spent (taking [] handed)) y.router.number conn spends refl refl }) takes))
-          (ap (λ (z : Router). z.number) calls.rest) (ap (λ (z : Router). z.peers) calls.rest))
+          (ap (λ (z : Router). z.number) calls.rest) (ap (λ (z : Router). z.peers) calls.rest)))
+
+      by_size : (b : Bool) → nat_lt mid.config.max_message_size (length bytes) ≡ b
+          → row configs log at seed spends ≡ fitting_row (nat_lt (limit_at configs n) (length bytes)) (length bytes) (limit_at configs n) (unless_stopped log n closed handed)
+          → SendsBy b telling.Outcome (length log) c.channel priority bytes c.keys mid y r → Performs configs log spent n y links r
+      by_size b fits due d = by b fits d
+        where
+          due_by : (t : Bool) → nat_lt mid.config.max_message_size (length bytes) ≡ t → row configs log at seed spends ≡ fitting_row t (length bytes) mid.config.max_message_size (unless_stopped log n closed handed)
+          due_by t is =
+              due
+              ∙ (ap (λ m. fitting_row (nat_lt m (length bytes)) (length bytes) m (unless_stopped log n closed handed)) (sym limit_is)
+              ∙ ap (λ f. fitting_row f (length bytes) mid.config.max_message_size (unless_stopped log n closed handed)) is)
+
+          by : (t : Bool) → nat_lt mid.config.max_message_size (length bytes) ≡ t → SendsBy t telling.Outcome (length log) c.channel priority bytes c.keys mid y r → Performs configs log spent n y links r
+          by true long h = unsent (reply.MessageTooLarge (length bytes) mid.config.max_message_size) (due_by true long) h.0 h.1
+          by false short h = handed_by x.stopped (sym s.life) (due_by false short) h
 
   -- what the node has of the check, by the log
   kept_is : (o : Option Check) → check_of log check ≡ o → admitted_at n o ≡ elim o [ None ↦ None | Some c ↦ Some (record { channel = c.channel; keys = c.keys }) ]
@@ -282,11 +311,8 @@ module _ (configs : List Config) (log : List Entry) (at seed check : ℕ) (bytes
   unfolding row
   by_check None is left gone d = unsent left gone reply.Gone (ap (spent_row configs log bytes priority) is) d.0 d.1
   by_check (Some c) is left gone d =
-      let due : Row = handed left gone (record { channel = c.channel; keys = c.keys }) in
       by_size left gone (record { channel = c.channel; keys = c.keys }) (nat_lt x.config.max_message_size (length bytes)) refl
-      (ap (spent_row configs log bytes priority) is
-      ∙ (ap (λ m. spent_row configs log bytes priority (Some (record c { node = m }))) (sym (checking_is log check c is))
-      ∙ ap (λ b. fitting_row (nat_lt (limit_at configs n) (length bytes)) (length bytes) (limit_at configs n) (cond b (only (reply.Outcome (Outcome feedback.Closed) n c.channel c.keys)) due)) s.lasts)) d
+      (ap (spent_row configs log bytes priority) is ∙ ap (λ m. spent_row configs log bytes priority (Some (record c { node = m }))) (sym (checking_is log check c is))) d
 
   pub send_checked_performs : SendsChecked (length log) check priority bytes x y r → Performs configs log spent n y links r
   send_checked_performs d =

@@ -11,12 +11,12 @@ use Rattle.p2p_log.specs.declared.event.Event.{Event}
 use Rattle.p2p_log.specs.declared.event.Recipients.{Recipients}
 use Rattle.p2p_log.specs.declared.event.Act.{Act}
 use Rattle.p2p_log.specs.declared.event.Act.TheVariants as act
-use Rattle.p2p_log.specs.Lines.{stays, stands_in, live, line}
+use Rattle.p2p_log.specs.Lines.{stays, stands_in, live, line, goes}
 use Rattle.p2p_log_rules.proofs.Connections.{ends_untold}
 use Rattle.p2p_log_rules.specs.declared.row.Row.{Row}
 use Rattle.p2p_log_rules.specs.Admitting.{offered, keys_admitted}
 use Rattle.p2p_log_rules.specs.Frames.{frame_of}
-use Rattle.p2p_log_rules.specs.Facts.{events_of, latest_moment, is_up}
+use Rattle.p2p_log_rules.specs.Facts.{events_of, latest_moment, is_up, is_stopped}
 use Rattle.p2p_log_rules.specs.Effect.{only, unless_stopped, taking, takes_list, row, effect, entry_of, sent_row, send_keys_row, router_capacity, limit_at, fitting_row}
 use Rattle.p2p_log_rules.proofs.Checks.{checked_at-apart}
 use Rattle.p2p_log_rules.proofs.Sends.{Asks, sent_moments-asked}
@@ -32,20 +32,21 @@ use Rattle.p2p_net_channels.specs.Senders.{keys_metered}
 use Rattle.p2p_net_channels.specs.Stands.{ChannelsStand}
 use Rattle.p2p_net_channels.proofs.Checks.{checks_kept}
 use Rattle.p2p_net_channels.proofs.Senders.{channels_asked}
-use Rattle.p2p_net_router.proofs.Over.{over_gone, over_taking, sent_takes}
+use Rattle.p2p_net_router.proofs.Over.{over_taking, sent_takes}
 use Rattle.p2p_net_router.proofs.Unrouted.{unrouted_apart}
 use Rattle.p2p_net_links.specs.Stands.{LinksStand}
 use Rattle.p2p_net_links.specs.declared.links.Links.{Links}
-use Rattle.p2p_net_calls.specs.Offering.{is_refused, listed, FollowsOn, SendsBy, SendsOffered, Sends}
+use Rattle.p2p_net_calls.specs.Offering.{is_refused, listed, FollowsOn, HandsBy, SendsBy, SendsOffered, Sends}
 use Rattle.p2p_net_node.specs.Places as place
-use Rattle.p2p_net_node.specs.Stands.{RouterStands, NodeStands}
+use Rattle.p2p_net_node.specs.Stands.{RouterLives, NodeStands}
 use Rattle.p2p_net_node.specs.declared.node.Node.{Node}
 use Rattle.p2p_net_calls.specs.declared.offers.Offered.{Offered}
 use Rattle.p2p_net_node.proofs.EachPart.{not_among}
-use Rattle.p2p_net_calls.proofs.Messages.{mailbox_left, channels_unasked, IsOffered, is_offered, named, built}
+use Rattle.p2p_net_calls.proofs.Messages.{RouterOver, IsAside, nothing_gone, lives_idle, mailbox_left, channels_unasked, IsOffered, is_offered, named, built}
 use Rattle.p2p_net_node.proofs.Performing.{asked, Performs, effect-still}
 use Rattle.p2p_net_node.proofs.Receivers.{admits_apart, closes_apart}
-use Rattle.p2p_net_node.proofs.Routers.{hears_aside, RouterStands-moved, RouterStands-idle}
+use Rattle.p2p_net_node.proofs.Routers.{hears_aside, RouterStands-moved}
+use Rattle.p2p_net_node.proofs.Frames.{lives_on, lasts_after}
 
 module _ (configs : List Config) (log : List Entry) (at seed n c : ℕ) (bytes : List ℕ) (priority : Bool) (to : Recipients) (x y : Node) (l links : Links) (r : Row) (s : NodeStands configs log n x) (t : LinksStand configs log l)
     (current : ListsAreCurrent log) (late : latest_moment (events_of log) ≤ at) (kept : links ≡ l) where
@@ -74,14 +75,14 @@ module _ (configs : List Config) (log : List Entry) (at seed n c : ℕ) (bytes :
   chan : ChannelsStand configs log n x.channels
   chan = s.each place.channels
 
-  routes : RouterStands configs log n x.router
-  routes = s.each place.router
+  lives : RouterLives configs log n x.router
+  lives = s.each place.router
 
   limit_is : x.config.max_message_size ≡ limit_at configs n
   limit_is = sym (ap (λ (o : Option Config). elim o [ None ↦ 0 | Some c ↦ c.max_message_size ]) s.own.config)
 
   -- a node whose channels and whose router these are
-  done : (ch : Channels) (router : Router) → r ≡ row configs log at seed a → y ≡ record x { channels = ch; router = router } → ChannelsStand configs (log ++ e ∷ []) n ch → RouterStands configs (log ++ e ∷ []) n router → Done
+  done : (ch : Channels) (router : Router) → r ≡ row configs log at seed a → y ≡ record x { channels = ch; router = router } → ChannelsStand configs (log ++ e ∷ []) n ch → RouterLives configs (log ++ e ∷ []) n router → Done
   done ch router = built configs log ev n x y l links r ch router s t kept (λ p out. not_among named p n n out) refl refl refl
 
   -- the channels, whose quota was asked
@@ -92,82 +93,92 @@ module _ (configs : List Config) (log : List Entry) (at seed n c : ℕ) (bytes :
       (checks_kept log e n x.channels.checks chan.checks (λ name. checked_at-apart log e n name refl)) (closes_apart log e n a refl refl) c at to
       (sent_moments-asked log e n c to (Asks.sends bytes priority refl)) refl late
 
-  -- the router, once it was handed what the row puts
-  router_now : (inner : Row) (new : Router) → row configs log at seed a ≡ taking names inner → inner.takes ≡ [] → StandsOver configs log new (after (length log) inner (filter (stays names) (live log)))
-      → new.number ≡ x.router.number → new.peers ≡ x.router.peers → RouterStands configs (log ++ e ∷ []) n new
+  aside : IsAside configs log e n
   unfolding effect
-  router_now inner new is none over number peers =
-      RouterStands-moved configs log e n x.router new routes (hears_aside log e n a refl refl)
+  aside = record {
+    beside = λ m. record { no_step = unrouted_apart log e m refl; no_channel = refl; no_turn = refl; no_end = λ conn. ends_untold log e m conn a refl refl };
+    hears = hears_aside log e n a refl refl;
+    goes_on = refl;
+  }
+
+  -- the router of a node that has not stopped, once it was handed what the row puts
+  router_now : (inner : Row) (new : Router) → is_stopped log n ≡ false → row configs log at seed a ≡ taking names inner → inner.takes ≡ [] → StandsOver configs log new (after (length log) inner (filter (stays names) (live log)))
+      → new.number ≡ x.router.number → new.peers ≡ x.router.peers → RouterLives configs (log ++ e ∷ []) n new
+  unfolding effect
+  router_now inner new lasts is none over number peers =
+      lives_on configs (log ++ e ∷ []) n new (lasts_after configs log ev n lasts refl)
+      (RouterStands-moved configs log e n x.router new (lives.runs lasts) aside.hears
       (subst (λ (z : Row). StandsFor configs (log ++ entry_of ev z ∷ []) new) (sym is) (over_taking configs log ev new names inner over (record { no_step = unrouted_apart log (entry_of ev (taking names inner)) new.number refl; no_channel = refl; no_turn = refl; no_end = λ conn. ends_untold log (entry_of ev (taking names inner)) new.number conn a refl refl }) none))
-      number peers
+      number peers)
 
   -- or nothing
-  router_idle : (rep : Reply) (new : Router) → row configs log at seed a ≡ taking names (only rep) → StandsOver configs log new (filter (stays names) (live log))
-      → new.number ≡ x.router.number → new.peers ≡ x.router.peers → RouterStands configs (log ++ e ∷ []) n new
+  router_idle : (rep : Reply) (new : Router) → row configs log at seed a ≡ taking names (only rep) → RouterOver configs log n x.router new names → RouterLives configs (log ++ e ∷ []) n new
   unfolding effect
-  router_idle rep new is over number peers =
-      RouterStands-moved configs log e n x.router new routes (hears_aside log e n a refl refl)
-      (subst (λ (z : Row). StandsFor configs (log ++ entry_of ev z ∷ []) new) (sym is)
-      (over_gone configs log (entry_of ev (taking names (only rep))) new names over (record { no_step = unrouted_apart log (entry_of ev (taking names (only rep))) new.number refl; no_channel = refl; no_turn = refl; no_end = λ conn. ends_untold log (entry_of ev (taking names (only rep))) new.number conn a refl refl }) (append-nil names) refl))
-      number peers
+  router_idle rep new is left =
+      lives_idle configs log e n x.router new names lives left aside (ap (λ (z : Row). goes (entry_of ev z)) is ∙ append-nil names) (ap (λ (z : Row). z.puts) is)
 
   module _ (mid : Node) (o : Offered) (row_now : Row) (h : IsOffered configs log n c at to x mid o) (is : r ≡ listed o.list row_now) where
     row_listed : (inner : Row) → row_now ≡ inner → r ≡ taking names inner
     row_listed inner same = is ∙ (ap (λ (z : List (ℕ × ℕ)). taking z row_now) h.names ∙ ap (taking names) same)
 
-    number_is : mid.router.number ≡ x.router.number
-    number_is = h.number ∙ sym routes.number
-
     -- nothing is sent
     refused : (rep : Reply) → row configs log at seed a ≡ taking names (only rep) → row_now ≡ only rep → y ≡ mid → Done
     refused rep due told same =
-        done (keys_metered c keys at x.channels) mid.router (row_listed (only rep) told ∙ sym due) (same ∙ h.mid_is) channels_now (router_idle rep mid.router due h.over number_is h.peers)
+        done (keys_metered c keys at x.channels) mid.router (row_listed (only rep) told ∙ sym due) (same ∙ h.mid_is) channels_now (router_idle rep mid.router due h.over)
 
     abbrev sent : List Key → Row
     sent ks = sent_row (reply.Sent ks) (reply.Sent []) (is_up log n) (nat_le (router_capacity configs log n) (length (line log (queue.Router n)))) n (length log) c priority (frame_of c bytes) ks
 
+    mid_same : mid ≡ record x { router = mid.router; channels = keys_metered c keys at x.channels }
+    mid_same = h.mid_is
+
     mid_limit : mid.config.max_message_size ≡ limit_at configs n
     mid_limit = ap (λ (z : Node). z.config.max_message_size) h.mid_is ∙ limit_is
 
-    -- by whether the message is longer than the node lets it be
-    to_by : (ks : List Key) (b : Bool) → nat_lt mid.config.max_message_size (length bytes) ≡ b
-        → row configs log at seed a ≡ taking names (fitting_row (nat_lt (limit_at configs n) (length bytes)) (length bytes) (limit_at configs n) (sent ks))
-        → SendsBy b telling.Sent (length log) c priority bytes ks mid y row_now → Done
-    to_by ks true long due d =
-        refused (reply.MessageTooLarge (length bytes) mid.config.max_message_size)
-        (due
-        ∙ (ap (λ m. taking names (fitting_row (nat_lt m (length bytes)) (length bytes) m (sent ks))) (sym mid_limit)
-        ∙ ap (λ b. taking names (fitting_row b (length bytes) mid.config.max_message_size (sent ks))) long)) d.0 d.1
-    to_by ks false short due d =
+    -- unless the node has stopped
+    abbrev sent_there : List Key → Row
+    sent_there ks = unless_stopped log n (reply.Sent []) (sent ks)
+
+    -- by whether it has
+    handed_by : (ks : List Key) (b : Bool) → is_stopped log n ≡ b → row configs log at seed a ≡ taking names (sent_there ks) → HandsBy b telling.Sent (length log) c priority bytes ks mid y row_now → Done
+    handed_by ks true over due d = refused (reply.Sent []) (due ∙ ap (λ b. taking names (cond b (only (reply.Sent [])) (sent ks))) over) d.0 d.1
+    handed_by ks false lasts due d =
         let calls = d.1 in
         let left = filter (stays names) (live log) in
         let mailbox : ℕ → Row = λ m. sent_row (reply.Sent ks) (reply.Sent []) (is_up log m) (nat_le (router_capacity configs log m) (length (filter (stands_in (queue.Router m)) left))) m (length log) c priority (frame_of c bytes) ks in
         let row_is : row_now ≡ sent ks =
-        calls.row configs log left h.over
-        ∙ (ap mailbox h.number
+        calls.row configs log left (h.over.runs lasts)
+        ∙ (ap mailbox (h.over.number ∙ lives.number)
         ∙ ap (λ q. sent_row (reply.Sent ks) (reply.Sent []) (is_up log n) (nat_le (router_capacity configs log n) (length q)) n (length log) c priority (frame_of c bytes) ks) (mailbox_left log n c to))
         in
-        let due_now : row configs log at seed a ≡ taking names (sent ks) =
-        due
-        ∙ (ap (λ m. taking names (fitting_row (nat_lt m (length bytes)) (length bytes) m (sent ks))) (sym mid_limit)
-        ∙ ap (λ b. taking names (fitting_row b (length bytes) mid.config.max_message_size (sent ks))) short)
-        in
+        let due_now : row configs log at seed a ≡ taking names (sent ks) = due ∙ ap (λ b. taking names (cond b (only (reply.Sent [])) (sent ks))) lasts in
         done (keys_metered c keys at x.channels) y.router (row_listed (sent ks) row_is ∙ sym due_now)
         (d.0 ∙ ap (λ (z : Node). record z { router = y.router }) h.mid_is) channels_now
-        (router_now (sent ks) y.router due_now
+        (router_now (sent ks) y.router lasts due_now
         (sent_takes (reply.Sent ks) (reply.Sent []) (is_up log n) (nat_le (router_capacity configs log n) (length (line log (queue.Router n)))) n (length log) c priority (frame_of c bytes) ks)
-        (subst (λ (z : Row). StandsOver configs log y.router (after (length log) z left)) row_is (calls.stands configs log left h.over refl))
-        (ap (λ (z : Router). z.number) calls.rest ∙ number_is) (ap (λ (z : Router). z.peers) calls.rest ∙ h.peers))
+        (subst (λ (z : Row). StandsOver configs log y.router (after (length log) z left)) row_is (calls.stands configs log left (h.over.runs lasts) refl))
+        (ap (λ (z : Router). z.number) calls.rest ∙ h.over.number) (ap (λ (z : Router). z.peers) calls.rest ∙ h.over.peers))
 
-    -- the node has not stopped, so its router's mailbox is not closed
-    handed : (ks : List Key) → row configs log at seed a ≡ taking names (fitting_row (nat_lt (limit_at configs n) (length bytes)) (length bytes) (limit_at configs n) (unless_stopped log n (reply.Sent []) (sent ks)))
-        → row configs log at seed a ≡ taking names (fitting_row (nat_lt (limit_at configs n) (length bytes)) (length bytes) (limit_at configs n) (sent ks))
-    handed ks due = due ∙ ap (λ b. taking names (fitting_row (nat_lt (limit_at configs n) (length bytes)) (length bytes) (limit_at configs n) (cond b (only (reply.Sent [])) (sent ks)))) s.lasts
+    -- and by whether the message is longer than the node lets it be
+    to_by : (ks : List Key) (b : Bool) → nat_lt mid.config.max_message_size (length bytes) ≡ b
+        → row configs log at seed a ≡ taking names (fitting_row (nat_lt (limit_at configs n) (length bytes)) (length bytes) (limit_at configs n) (sent_there ks))
+        → SendsBy b telling.Sent (length log) c priority bytes ks mid y row_now → Done
+    to_by ks b fits due d = by_size b fits d
+      where
+        due_by : (t : Bool) → nat_lt mid.config.max_message_size (length bytes) ≡ t → row configs log at seed a ≡ taking names (fitting_row t (length bytes) mid.config.max_message_size (sent_there ks))
+        due_by t is =
+            due
+            ∙ (ap (λ m. taking names (fitting_row (nat_lt m (length bytes)) (length bytes) m (sent_there ks))) (sym mid_limit)
+            ∙ ap (λ f. taking names (fitting_row f (length bytes) mid.config.max_message_size (sent_there ks))) is)
+
+        by_size : (t : Bool) → nat_lt mid.config.max_message_size (length bytes) ≡ t → SendsBy t telling.Sent (length log) c priority bytes ks mid y row_now → Done
+        by_size true long h = refused (reply.MessageTooLarge (length bytes) mid.config.max_message_size) (due_by true long) h.0 h.1
+        by_size false short h = handed_by ks mid.stopped (sym (ap (λ (z : Node). z.stopped) mid_same ∙ s.life)) (due_by false short) h
 
     by_keys : (asks ks : List Key) → row configs log at seed a ≡ taking names (send_keys_row configs log bytes c n priority asks ks) → SendsOffered (is_refused asks ks) (length log) c priority bytes ks mid y row_now → Done
-    by_keys [] ks due d = to_by ks (nat_lt mid.config.max_message_size (length bytes)) refl (handed ks due) d
+    by_keys [] ks due d = to_by ks (nat_lt mid.config.max_message_size (length bytes)) refl due d
     by_keys (j ∷ js) [] due d = refused (reply.Sent []) due d.0 d.1
-    by_keys (j ∷ js) (k ∷ ks) due d = to_by (k ∷ ks) (nat_lt mid.config.max_message_size (length bytes)) refl (handed (k ∷ ks) due) d
+    by_keys (j ∷ js) (k ∷ ks) due d = to_by (k ∷ ks) (nat_lt mid.config.max_message_size (length bytes)) refl due d
 
   -- on a channel that is not registered no quota is asked
   unregistered : capacity_at x.channels c ≡ None → ChannelsStand configs (log ++ e ∷ []) n x.channels
@@ -180,7 +191,7 @@ module _ (configs : List Config) (log : List Entry) (at seed n c : ℕ) (bytes :
   gone has is told same =
       let still = effect-still configs log ev reply.Gone is in
       done x.channels x.router (told ∙ sym is) same (unregistered has)
-      (RouterStands-idle configs log e n x.router (record { no_step = unrouted_apart log e n refl; no_channel = refl; no_turn = refl; no_end = λ conn. ends_untold log e n conn a refl refl }) (hears_aside log e n a refl refl) still.takes still.puts still.ends routes)
+      (lives_idle configs log e n x.router x.router [] lives (nothing_gone configs log n x.router lives) aside (ap (λ (z : Row). goes (entry_of ev z)) is) still.puts)
 
   -- the row, by whether the channel is registered
   due_on : (p : Option ℕ) → capacity_at x.channels c ≡ p → row configs log at seed a ≡ elim p [ None ↦ only reply.Gone | Some _ ↦ taking names (send_keys_row configs log bytes c n priority keys admitted) ]

@@ -1,5 +1,6 @@
 -- What each call of a node comes to, and what it makes of the node. No log: of the router's calls the log is a matter of its own.
-use Rattle.std.specs.Prelude.{◌≡◌, ℕ, ◌+◌, Bool, true, false}
+use Rattle.std.specs.Prelude.{◌≡◌, ℕ, ◌+◌, Bool, true, false, cond}
+use Rattle.p2p_log.specs.declared.asked.Asked.{Asked}
 use Rattle.p2p_log.specs.declared.entry.Reply.TheVariants as reply
 use Rattle.p2p_log.specs.declared.event.Rate.{Rate}
 use Rattle.p2p_log_rules.specs.declared.row.Row.{Row}
@@ -8,24 +9,35 @@ use Rattle.p2p_log_rules.specs.Listening.{quota_of}
 use Rattle.p2p_net_queues.specs.Tables.{waiting}
 use Rattle.p2p_net_channels.specs.Channels.{registered_with, has_reader, read_from, closed_row, closed_with}
 use Rattle.p2p_net_gates.specs.Dialing.{started}
-use Rattle.p2p_net_node.specs.Staying.{Stays}
-use Rattle.p2p_net_node.specs.Ready.{capacity_by}
+use Rattle.p2p_net_tracker.specs.Asking.{ask_answer, after_asking}
+use Rattle.p2p_net_tracker.specs.Stopping.{ask_stopped_row, after_ask_stopped}
+use Rattle.p2p_net_node.specs.Staying.{Stays, Tracks}
+use Rattle.p2p_net_node.specs.Requested.{capacity_by}
 use Rattle.p2p_net_node.specs.Routing as routing
 use Rattle.p2p_net_node.specs.declared.node.Node.{Node}
 
-abbrev pub Registers : ℕ → Rate → Node → Node → Row → Type 0
-Registers c rate old new r =
+-- by whether the node has stopped
+abbrev pub RegistersBy : Bool → ℕ → Rate → Node → Node → Row → Type 0
+RegistersBy true c rate old new r = Stays old new r (only reply.Gone)
+RegistersBy false c rate old new r =
     (r ≡ only (reply.Capacity (capacity_by old rate)))
     × ((new ≡ record old { router = new.router; channels = registered_with old.channels c (capacity_by old rate) (quota_of rate) }) × routing.Subscribes c old.router new.router)
 
-abbrev pub Starts : ℕ → ℕ → Node → Node → Row → Type 0
-Starts k at old new r =
+abbrev pub Registers : ℕ → Rate → Node → Node → Row → Type 0
+Registers c rate old new r = RegistersBy old.stopped c rate old new r
+
+abbrev pub StartsBy : Bool → ℕ → ℕ → Node → Node → Row → Type 0
+StartsBy true k at old new r = Stays old new r (only reply.Gone)
+StartsBy false k at old new r =
     (new ≡ record old { router = new.router; dialing = started old.config at old.dialing }) × routing.Starts k (old.config.mailbox_size + old.channels.total) old.router new.router r
 
--- by whether the channel has a reader
+abbrev pub Starts : ℕ → ℕ → Node → Node → Row → Type 0
+Starts k at old new r = StartsBy old.stopped k at old new r
+
+-- by whether the channel has a reader, which hears where none will come
 abbrev pub ReadsOn : Bool → ℕ → Node → Node → Row → Type 0
 ReadsOn false c old new r = Stays old new r (only reply.Gone)
-ReadsOn true c old new r = (r ≡ oldest_read reply.Pending (waiting old.channels.waiting c)) × (new ≡ record old { channels = read_from c old.channels })
+ReadsOn true c old new r = (r ≡ oldest_read (cond old.stopped reply.NetworkClosed reply.Pending) (waiting old.channels.waiting c)) × (new ≡ record old { channels = read_from c old.channels })
 
 abbrev pub Reads : ℕ → Node → Node → Row → Type 0
 Reads c old new r = ReadsOn (has_reader old.channels c) c old new r
@@ -36,3 +48,11 @@ ClosesOn true c old new r = (r ≡ closed_row (waiting old.channels.waiting c)) 
 
 abbrev pub Closes : ℕ → Node → Node → Row → Type 0
 Closes c old new r = ClosesOn (has_reader old.channels c) c old new r
+
+-- by whether the node n has stopped
+abbrev pub AsksBy : Bool → ℕ → ℕ → Asked → Node → Node → Row → Type 0
+AsksBy true n k what old new r = (r ≡ ask_stopped_row old.tracker what) × Tracks (after_ask_stopped old.tracker k what) old new
+AsksBy false n k what old new r = (r ≡ ask_answer old.tracker n k what) × Tracks (after_asking old.tracker k what) old new
+
+abbrev pub Asks : ℕ → ℕ → Asked → Node → Node → Row → Type 0
+Asks n k what old new r = AsksBy old.stopped n k what old new r

@@ -15,6 +15,7 @@ use Rattle.p2p_net_channels.specs.Channels.{capacity_at}
 use Rattle.p2p_net_channels.specs.Senders.{keys_passed, retry_told, keys_metered}
 use Rattle.p2p_net_channels.specs.declared.channels.Channels.{Channels}
 use Rattle.p2p_net_router.specs.Peers.{names_taken, peers_known}
+use Rattle.p2p_net_router.specs.Telling.{closed_reply}
 use Rattle.p2p_net_router.specs.declared.router.Router.{Router}
 use Rattle.p2p_net_router.specs.declared.telling.Telling.{Telling}
 use Rattle.p2p_net_router.specs.declared.telling.Telling.TheVariants as telling
@@ -69,11 +70,16 @@ FollowsOn (Some capacity) c at to Then old new r = Follows c at to Then old new 
 
 -- ---- what is sent
 
--- to these keys, by whether the message is longer than the node lets it be
+-- to these keys, by whether the node has stopped
+abbrev pub HandsBy : Bool → Telling → ℕ → ℕ → Bool → List ℕ → List Key → Node → Node → Row → Type 0
+HandsBy true tells k c priority bytes keys old new r = Stays old new r (only (closed_reply tells old.router.number c keys))
+HandsBy false tells k c priority bytes keys old new r =
+    (new ≡ record old { router = new.router }) × routing.Sends k tells c priority bytes keys old.router new.router r
+
+-- and by whether the message is longer than the node lets it be
 abbrev pub SendsBy : Bool → Telling → ℕ → ℕ → Bool → List ℕ → List Key → Node → Node → Row → Type 0
 SendsBy true tells k c priority bytes keys old new r = Stays old new r (only (reply.MessageTooLarge (length bytes) old.config.max_message_size))
-SendsBy false tells k c priority bytes keys old new r =
-    (new ≡ record old { router = new.router }) × routing.Sends k tells c priority bytes keys old.router new.router r
+SendsBy false tells k c priority bytes keys old new r = HandsBy old.stopped tells k c priority bytes keys old new r
 
 -- by whether the channel's quota admits none of some
 abbrev pub SendsOffered : Bool → ℕ → ℕ → Bool → List ℕ → List Key → Node → Node → Row → Type 0

@@ -146,7 +146,7 @@ fn send_offered(
     )?)
 }
 
-/// Sends a message on a channel to these keys, where it is no longer than the node lets it be.
+/// Sends a message on a channel to these keys, where it is no longer than the node lets it be, and the node has not stopped.
 fn send_to(
     node: &mut Node,
     turn: Turn,
@@ -162,6 +162,10 @@ fn send_to(
     let (size, limit) = (bytes.len(), node.config.max_message_size as usize);
     if size > limit {
         return Ok(only(turn.alloc, Reply::MessageTooLarge { size, limit }));
+    }
+    if node.stopped {
+        let reply = telling.closed(turn.alloc, node.router.number, channel, keys);
+        return Ok(only(turn.alloc, reply));
     }
     Ok(
         node.router

@@ -10,7 +10,6 @@ use Rattle.p2p_log.specs.declared.queue.Queue.{Queue}
 use Rattle.p2p_log.specs.declared.queue.Queue.TheVariants as queue
 use Rattle.p2p_log.specs.declared.queue.Side.{Side}
 use Rattle.p2p_log.specs.declared.queue.Side.TheVariants as side
-use Rattle.p2p_log.specs.declared.item.Item.{Item}
 use Rattle.p2p_log.specs.declared.item.Item.TheVariants as item
 use Rattle.p2p_log.specs.declared.item.Envelope.{Envelope}
 use Rattle.p2p_log.specs.declared.entry.Entry.{Entry}
@@ -23,7 +22,7 @@ use Rattle.p2p_log_rules.specs.declared.row.Half.{Half}
 use Rattle.p2p_log_rules.specs.declared.row.Row.{Row}
 use Rattle.p2p_log_rules.specs.Connections.{begins, live_connection, live_half, is_begun, is_answer, has_run, is_ended}
 use Rattle.p2p_log_rules.specs.Effect.{row, effect, entry_of, begin_row, mailbox_size_at}
-use Rattle.p2p_log_rules.specs.Facts.{is_up, taken}
+use Rattle.p2p_log_rules.specs.Facts.{is_up}
 use Rattle.p2p_log_rules.proofs.Connections.{runs_is, HalfParts, half_parts, is_live, live_connection-kept, ends_none-reply}
 use Rattle.p2p_log_rules.specs.Spawning.{connections_of}
 use Rattle.p2p_log_rules.proofs.Spawning.{connections_of-unmade}
@@ -54,6 +53,8 @@ use Rattle.p2p_net_node.proofs.Receivers.{receives_nothing}
 use Rattle.p2p_net_node.proofs.Performing.{asked, Performs, taken-none}
 use Rattle.p2p_net_node.proofs.Routers.{HearsOfBegun-told, IsStranger-unbegun}
 use Rattle.p2p_net_connecting.proofs.RouterAnswers.{half_steps, step_begins, step_beside, step_drops, named_parts}
+use Rattle.p2p_log_rules.proofs.Channels.{up_lasts}
+use Rattle.p2p_net_node.proofs.Frames.{lives_on, lasts_after}
 
 -- one that has not begun does not run
 idle_stage : (o : Option Stage) → is_some o ≡ false → runs_on o ≡ false
@@ -84,7 +85,7 @@ module _ (configs : List Config) (log : List Entry) (at seed conn n : ℕ) (half
   connects = s.each place.connections
 
   routes : RouterStands configs log n x.router
-  routes = s.each place.router
+  routes = (s.each place.router).runs (up_lasts log n up)
 
   not_running : has_run log n conn ≡ false
   not_running = sym (connects.running conn) ∙ idle_stage (table.at x.connections.stages conn) (connects.begun conn ∙ idle)
@@ -161,7 +162,8 @@ module _ (configs : List Config) (log : List Entry) (at seed conn n : ℕ) (half
         (λ p out. not_among-links named_parts p n out) refl refl (
           subst (λ (z : Entry). ConnectionsStand configs (log ++ z ∷ []) n y.connections) effect_is (subst (ConnectionsStand configs (log ++ e ∷ []) n) (sym (ap (λ (z : Node). z.connections) d.1.0)) connections_now),
           (
-            subst (λ (z : Entry). RouterStands configs (log ++ z ∷ []) n y.router) effect_is router_now,
+            lives_on configs (log ++ effect configs log ev ∷ []) n y.router (lasts_after configs log ev n (up_lasts log n up) refl)
+                (subst (λ (z : Entry). RouterStands configs (log ++ z ∷ []) n y.router) effect_is router_now),
             (
               subst (λ (z : Entry). TrackerStands configs (log ++ z ∷ []) n y.tracker) effect_is
                   (subst (TrackerStands configs (log ++ e ∷ []) n) (sym (ap (λ (z : Node). z.tracker) d.1.0)) (tracker_begun configs log at seed n conn half.peer x.tracker (s.each place.tracker))),

@@ -1,6 +1,6 @@
 -- What a step of the receiving half of a connection leaves alone where it ends nothing: the router and the tracker of its node.
 use Rattle.std.proofs.Common.{◌≡◌, ℕ, Bool, true, false, cond, List, [], ◌∷◌, ◌++◌, refl, ap, sym, ◌∙◌, None}
-use Rattle.std.specs.Prelude.{filter, ◌&&◌}
+use Rattle.std.specs.Prelude.{filter}
 use Rattle.p2p_log.specs.declared.config.Config.{Config}
 use Rattle.p2p_log.specs.declared.queue.Queue.{Queue}
 use Rattle.p2p_log.specs.declared.queue.Queue.TheVariants as queue
@@ -17,7 +17,7 @@ use Rattle.p2p_log_rules.proofs.Connections.{begins_act, ends_none-reply}
 use Rattle.p2p_log_rules.proofs.Families.{kinds_of, are_apart}
 use Rattle.p2p_log_rules.proofs.Spawning.{connections_of-unmade}
 use Rattle.p2p_net_router.specs.Names.{is_routers}
-use Rattle.p2p_net_router.specs.Stands.{IsBeside}
+use Rattle.p2p_net_router.specs.Stands.{IsBeside, RoutesNothing}
 use Rattle.p2p_net_router.specs.declared.router.Router.{Router}
 use Rattle.p2p_net_router.proofs.Beside.{stands_beside}
 use Rattle.p2p_net_router.proofs.Unrouted.{unrouted_apart}
@@ -28,10 +28,12 @@ use Rattle.p2p_net_links.proofs.Drops.{DropsNone}
 use Rattle.p2p_net_tracker.specs.Stands.{is_told, asks_of, TrackerStands}
 use Rattle.p2p_net_tracker.specs.declared.tracker.Tracker.{Tracker}
 use Rattle.p2p_net_tracker.proofs.Changes.{tracker_frame}
-use Rattle.p2p_net_node.specs.Stands.{RouterStands}
+use Rattle.p2p_net_node.specs.Stands.{RouterStands, RouterLives}
 use Rattle.p2p_net_node.proofs.Routers.{HearsTheSame, hears_kept, RouterStands-moved}
 use Rattle.p2p_log_rules.proofs.Steps.{steps_tracker, steps_spawner}
 use Rattle.p2p_log_rules.proofs.Answers.{takes_answer}
+use Rattle.p2p_log_rules.proofs.Channels.{is_stopped-before, is_stopped-kept}
+use Rattle.p2p_net_router.proofs.Resting.{rests_kept}
 
 -- ---- queues
 
@@ -107,12 +109,22 @@ module _ (configs : List Config) (log : List Entry) (e : Entry) (n conn : ℕ) (
       (λ c. connections_of-unmade log e n (ap (steps_spawner n) acts) c)
 
   module _ (same : (q : Queue) → is_beside q ≡ true → line (log ++ e ∷ []) q ≡ line log q) where
-    pub received_router : (r : Router) → RouterStands configs log n r → RouterStands configs (log ++ e ∷ []) n r
+    received_router : (r : Router) → RouterStands configs log n r → RouterStands configs (log ++ e ∷ []) n r
     received_router r s =
         RouterStands-moved configs log e n r r s received_hears
         (stands_beside configs log e r s.stands (received_beside r.number)
         (λ q own. line_of (log ++ e ∷ []) q ∙ (same q (routers_beside r.number q own) ∙ sym (line_of log q))))
         refl refl
+
+    -- whether the node has stopped or not
+    pub received_lives : (r : Router) → RouterLives configs log n r → RouterLives configs (log ++ e ∷ []) n r
+    received_lives r s =
+        let still : RoutesNothing log e n = (received_beside n).no_step in
+        record {
+          number = s.number;
+          runs = λ lasts. received_router r (s.runs (is_stopped-before log e n lasts));
+          rests = λ over. rests_kept configs log e n r (s.rests (sym (is_stopped-kept log e n (ap (stops n) acts)) ∙ over)) (λ c. same (queue.Peers n c) refl) still.routes_stay still.subscribers_stay;
+        }
 
     pub received_tracker : (t : Tracker) → TrackerStands configs log n t → TrackerStands configs (log ++ e ∷ []) n t
     received_tracker t s = tracker_frame configs log e n t s (record {

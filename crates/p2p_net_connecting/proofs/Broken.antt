@@ -34,6 +34,7 @@ use Rattle.p2p_net_node.specs.Routing as routing
 use Rattle.p2p_net_node.specs.Stands.{RouterStands, NodeStands}
 use Rattle.p2p_net_node.specs.declared.node.Node.{Node}
 use Rattle.p2p_net_connecting.proofs.HaveLeft.{HaveLeft}
+use Rattle.p2p_log_rules.specs.Facts.{is_stopped}
 
 -- a batch is the front of what stands in its two lanes
 batch_taken : (log : List Entry) (n conn most : ℕ) → AreTaken (live log) (batch_of n conn most (live log))
@@ -53,7 +54,7 @@ batch_apart log n conn most p high low =
     (Each-append (λ (y : Envelope). stands_in p y ≡ false) (filter (stands_in (queue.High n conn)) (live log)) (filter (stands_in (queue.Low n conn)) (live log)) (off (queue.High n conn) high) (off (queue.Low n conn) low))
 
 module _ (configs : List Config) (log : List Entry) (n conn most : ℕ) (half : Half) (x w : Node) (l : Links) (frames : List ((ℕ × ℕ) × Item))
-    (s : NodeStands configs log n x) (t : LinksStand configs log l) (batches : routing.Batches conn most x.router w.router frames) (others : w ≡ record x { router = w.router }) where
+    (s : NodeStands configs log n x) (lasts : is_stopped log n ≡ false) (t : LinksStand configs log l) (batches : routing.Batches conn most x.router w.router frames) (others : w ≡ record x { router = w.router }) where
   abbrev batch : List Envelope
   batch = batch_of n conn most (live log)
 
@@ -61,7 +62,7 @@ module _ (configs : List Config) (log : List Entry) (n conn most : ℕ) (half : 
   tracks = s.each place.tracker
 
   routes : RouterStands configs log n x.router
-  routes = s.each place.router
+  routes = (s.each place.router).runs lasts
 
   line_off : (q : Queue) → same_queue (queue.High n conn) q ≡ false → same_queue (queue.Low n conn) q ≡ false → filter (stands_in q) (left_by log batch) ≡ line log q
   unfolding line

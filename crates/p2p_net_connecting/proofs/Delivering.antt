@@ -53,10 +53,10 @@ use Rattle.p2p_net_tracker.specs.Stands.{TrackerStands}
 use Rattle.p2p_net_connecting.specs.Ending.{EndsRefused}
 use Rattle.p2p_net_node.specs.Places as place
 use Rattle.p2p_net_connecting.specs.Receiving.{named_as, verdict_by, metered_on, asked_of, message_row, passed_row, message_into, passed_into, held_into, without_first, unheld, TakesAs, ReadsFrame, RetriesAs, RetriesBy}
-use Rattle.p2p_net_node.specs.Stands.{RouterStands, NodeStands}
+use Rattle.p2p_net_node.specs.Stands.{NodeStands, RouterLives}
 use Rattle.p2p_net_node.specs.declared.node.Node.{Node}
 use Rattle.p2p_net_connecting.proofs.Arriving.{IsRead, frame_read, held_read, settled_row, came_row, frame_settles, held_settles}
-use Rattle.p2p_net_connecting.proofs.Beside.{is_beside, beside_link, beside_from, beside_held, beside_channel, received_drops, received_router, received_tracker}
+use Rattle.p2p_net_connecting.proofs.Beside.{is_beside, beside_link, beside_from, beside_held, beside_channel, received_drops, received_lives, received_tracker}
 use Rattle.p2p_net_node.proofs.EachPart.{with_parts, each_part, not_among-links}
 use Rattle.p2p_net_node.proofs.Frames.{begins_unsent}
 use Rattle.p2p_net_node.proofs.Performing.{asked, Performs, stays_performs, IsStill, line-still, links_still}
@@ -108,8 +108,8 @@ module _ (configs : List Config) (log : List Entry) (at seed conn n : ℕ) (half
               (
                 subst (λ (z : Entry). ConnectionsStand configs (log ++ z ∷ []) n y.connections) same (subst (ConnectionsStand configs (log ++ e ∷ []) n) (sym (ap (λ (z : Node). z.connections) parts)) connects_now),
                 (
-                  subst (λ (z : Entry). RouterStands configs (log ++ z ∷ []) n y.router) same
-                      (subst (RouterStands configs (log ++ e ∷ []) n) (sym (ap (λ (z : Node). z.router) parts)) (received_router configs log e n conn refl lives beside x.router (s.each place.router))),
+                  subst (λ (z : Entry). RouterLives configs (log ++ z ∷ []) n y.router) same
+                      (subst (RouterLives configs (log ++ e ∷ []) n) (sym (ap (λ (z : Node). z.router) parts)) (received_lives configs log e n conn refl lives beside x.router (s.each place.router))),
                   (
                     subst (λ (z : Entry). TrackerStands configs (log ++ z ∷ []) n y.tracker) same
                         (subst (TrackerStands configs (log ++ e ∷ []) n) (sym (ap (λ (z : Node). z.tracker) parts)) (received_tracker configs log e n conn refl lives beside x.tracker (s.each place.tracker))),

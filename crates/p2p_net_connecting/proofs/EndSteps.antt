@@ -35,9 +35,10 @@ use Rattle.p2p_net_connecting.proofs.HaveLeft.{HaveLeft}
 use Rattle.p2p_net_connecting.proofs.Leaving.{Leaving}
 use Rattle.p2p_net_connecting.proofs.LeavingEntry.{half_act, no_spawner, no_stop, entry}
 use Rattle.p2p_net_connecting.proofs.LeavingParts.{connections_now, tracker_now, channels_now, links_now}
-use Rattle.p2p_net_connecting.proofs.LeavingRouter.{router_now}
+use Rattle.p2p_net_connecting.proofs.LeavingRouter.{lives_now}
 use Rattle.p2p_net_connecting.proofs.LeavingRow.{row_ends}
 use Rattle.p2p_net_node.proofs.Performing.{asked, Performs}
+use Rattle.p2p_log_rules.specs.Facts.{is_stopped}
 
 -- ---- the step
 
@@ -74,7 +75,7 @@ module _ {configs : List Config} {log : List Entry} {n conn : ℕ} {half : Half}
   sent_performs : (at seed : ℕ) → row configs log at seed (act.SendStep conn n) ≡ end_row log n conn half why c taken → Performs configs log (asked at seed (act.SendStep conn n)) n y links r
   sent_performs at seed row_is =
       step_performs at seed true sent_parts row_is (subst (λ z. z ≡ with_parts sent_parts x z) (sym node_is) refl) (λ p out. not_among-links sent_parts p n out)
-      (connections_now t at seed true, (router_now t at seed true, (tracker_now t at seed true, tt)))
+      (connections_now t at seed true, (lives_now t at seed true, (tracker_now t at seed true, tt)))
 
   -- one of the receiving half does, and leaves them alone
   abbrev received_parts : List place.Part
@@ -84,7 +85,7 @@ module _ {configs : List Config} {log : List Entry} {n conn : ℕ} {half : Half}
   received_performs at seed row_is =
       step_performs at seed false received_parts row_is (subst (λ z. z ≡ with_parts received_parts x z) (sym node_is) refl) (λ p out. not_among-links received_parts p n out) (
         subst (ChannelsStand configs (log ++ entry t at seed false ∷ []) n) (sym (ap (λ (z : Node). z.channels) node_is)) (channels_now t at seed false),
-        (connections_now t at seed false, (router_now t at seed false, (tracker_now t at seed false, tt))),
+        (connections_now t at seed false, (lives_now t at seed false, (tracker_now t at seed false, tt))),
       )
 
 -- ---- by what is kept of the connection
@@ -99,13 +100,14 @@ is_kept configs log n conn half cs s has none =
     cc
 
 module _ (configs : List Config) (log : List Entry) (at seed n conn : ℕ) (half : Half) (why : Ended) (c : Cause) (taken : List Envelope) (x w y : Node) (l m links : Links) (r : Row)
-    (s : NodeStands configs log n x) (has : live_half log n conn ≡ Some half) (begun : is_begun log n conn ≡ true) (running : has_run log n conn ≡ true)
+    (s : NodeStands configs log n x) (lasts : is_stopped log n ≡ false) (has : live_half log n conn ≡ Some half) (begun : is_begun log n conn ≡ true) (running : has_run log n conn ≡ true)
     (heard : Each (λ z. names_ready conn z.item ≡ false) (line log (queue.Router n))) where
   leaves : (o : Option Connection) → HaveLeft configs log n conn half taken x w l m → table.at w.connections.spawned conn ≡ o → EndsBy o (length log) n conn half w y m links (took_row why c taken) r
       → Leaving configs log n conn half why c taken x w y l m links r
   leaves None gone is d = absurd (is_kept configs log n conn half x.connections (s.each place.connections) has (sym (ap (λ (cs : Connections). table.at cs.spawned conn) gone.connections) ∙ is))
   leaves (Some connection) gone is d = record {
     stands = s;
+    lasts = lasts;
     has = has;
     begun = begun;
     running = running;

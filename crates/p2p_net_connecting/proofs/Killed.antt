@@ -35,6 +35,7 @@ use Rattle.p2p_net_node.specs.Stands.{RouterStands, NodeStands}
 use Rattle.p2p_net_node.specs.declared.node.Node.{Node}
 use Rattle.p2p_net_connecting.proofs.EndRows.{took_row, taken_dropped-row}
 use Rattle.p2p_net_connecting.proofs.HaveLeft.{HaveLeft}
+use Rattle.p2p_log_rules.specs.Facts.{is_stopped}
 
 -- the first of a queue was taken: its line is the rest, and each other line is as it was
 pub left_first : (log : List Entry) (p q : Queue) (k : Envelope) (rest : List Envelope) → line log p ≡ k ∷ rest
@@ -47,7 +48,7 @@ pub first_apart : (log : List Entry) (p q : Queue) (k : Envelope) (rest : List E
 first_apart log p q k rest first other = (ap (same_queue q) (one_taken log p k rest first) ∙ other, tt)
 
 module _ (configs : List Config) (log : List Entry) (n conn : ℕ) (half : Half) (k : Envelope) (rest : List Envelope) (x w : Node) (l : Links)
-    (s : NodeStands configs log n x) (t : LinksStand configs log l) (first : line log (queue.Control n conn) ≡ k ∷ rest)
+    (s : NodeStands configs log n x) (lasts : is_stopped log n ≡ false) (t : LinksStand configs log l) (first : line log (queue.Control n conn) ≡ k ∷ rest)
     (told : (q : Queue) → held w.tracker.told q ≡ (if same_queue (queue.Control n conn) q then drop 1 (held x.tracker.told q) else held x.tracker.told q))
     (tracker : w.tracker ≡ record x.tracker { told = w.tracker.told }) (others : w ≡ record x { tracker = w.tracker }) where
   abbrev c : Queue
@@ -57,7 +58,7 @@ module _ (configs : List Config) (log : List Entry) (n conn : ℕ) (half : Half)
   tracks = s.each place.tracker
 
   routes : RouterStands configs log n x.router
-  routes = s.each place.router
+  routes = (s.each place.router).runs lasts
 
   same_router : w.router ≡ x.router
   same_router = ap (λ (z : Node). z.router) others

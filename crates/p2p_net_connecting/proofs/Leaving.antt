@@ -39,11 +39,13 @@ use Rattle.p2p_net_node.specs.declared.node.Node.{Node}
 use Rattle.p2p_net_connecting.proofs.EndRows.{took_row}
 use Rattle.p2p_net_connecting.proofs.HaveLeft.{HaveLeft}
 use Rattle.p2p_net_connecting.proofs.Sides.{reserved_side}
+use Rattle.p2p_log_rules.specs.Facts.{is_stopped}
 
 -- a connection of a node ends: of x and l, where it runs, this is taken, which leaves w and m, and its end makes y and links of them, with
 -- the row r
 pub record Leaving (configs : List Config) (log : List Entry) (n conn : ℕ) (half : Half) (why : Ended) (c : Cause) (taken : List Envelope) (x w y : Node) (l m links : Links) (r : Row) : Type 0 where
   pub stands : NodeStands configs log n x
+  pub lasts : is_stopped log n ≡ false
   pub has : live_half log n conn ≡ Some half
   pub begun : is_begun log n conn ≡ true
   pub running : has_run log n conn ≡ true
@@ -75,7 +77,7 @@ module _ {configs : List Config} {log : List Entry} {n conn : ℕ} {half : Half}
   connects = t.stands.each place.connections
 
   pub routes : RouterStands configs log n x.router
-  routes = t.stands.each place.router
+  routes = (t.stands.each place.router).runs t.lasts
 
   -- ---- whom it is with
 

@@ -38,14 +38,16 @@ use Rattle.p2p_net_router.proofs.Aside.{same_queue-other}
 use Rattle.p2p_net_router.proofs.AtEnd.{over_end}
 use Rattle.p2p_net_router.proofs.Unrouted.{unrouted_apart}
 use Rattle.p2p_net_links.specs.declared.links.Links.{Links}
-use Rattle.p2p_net_node.specs.Stands.{RouterStands, key_heard}
+use Rattle.p2p_net_node.specs.Stands.{RouterStands, key_heard, RouterLives}
 use Rattle.p2p_net_node.specs.declared.node.Node.{Node}
 use Rattle.p2p_net_connecting.proofs.EndLines.{kept_is}
 use Rattle.p2p_net_connecting.proofs.Leaving.{Leaving, qs, flight, left, apart, routes, leads, without_number, without_peers, without_over, emptied_puts}
-use Rattle.p2p_net_connecting.proofs.LeavingEntry.{half_act, no_router, no_channel, no_turn, entry, ends_only, begins_none, makes_none}
+use Rattle.p2p_net_connecting.proofs.LeavingEntry.{half_act, no_router, no_channel, no_turn, entry, ends_only, begins_none, makes_none, no_stop}
 use Rattle.p2p_net_connecting.proofs.LeavingLines.{none_of, off_flight, left_none}
 use Rattle.p2p_net_node.proofs.Performing.{asked}
 use Rattle.p2p_net_node.proofs.Routers.{HearsOfBegun-ended}
+use Rattle.p2p_log_rules.proofs.Channels.{is_stopped-kept}
+use Rattle.p2p_net_node.proofs.Frames.{lives_on}
 
 -- what was taken of these leaves other queues alone
 filter_others : (items zs : List Envelope) (q : Queue) → AreApart items → AreTaken items zs → Each (λ y. stands_in q y ≡ false) zs
@@ -185,7 +187,7 @@ module _ {configs : List Config} {log : List Entry} {n conn : ℕ} {half : Half}
     left_same : (q : Queue) → is_routers n q ≡ true → filter (stands_in q) (filter (stays (goes e)) (live log)) ≡ filter (stands_in q) rest
     left_same q own = ap (filter (stands_in q)) (sym (kept_is log (asked at seed (half_act sends conn n)) n conn half why c taken t.gone.stood)) ∙ after_same q own
 
-    pub router_now : RouterStands configs (log ++ e ∷ []) n y.router
+    router_now : RouterStands configs (log ++ e ∷ []) n y.router
     router_now = record {
       number = now_number;
       stands = over_end configs log e y.router conn half.peer rest over_now (ending y.router.number now_number) (λ q own. left_same q (subst (λ k. is_routers k q ≡ true) now_number own));
@@ -193,3 +195,6 @@ module _ {configs : List Config} {log : List Entry} {n conn : ℕ} {half : Half}
           (λ k. t.kept.frees.router.peers k ∙ ap (λ ps. if is_eq (nat_cmp conn k) then None else tree.get nat_cmp ps k) low_peers)
           (ends_only t at seed sends) (begins_none t at seed sends) (makes_none t at seed sends);
     }
+
+    pub lives_now : RouterLives configs (log ++ e ∷ []) n y.router
+    lives_now = lives_on configs (log ++ e ∷ []) n y.router (is_stopped-kept log e n (no_stop conn n sends) ∙ t.lasts) router_now

@@ -46,6 +46,7 @@ use Rattle.p2p_net_node.proofs.Performing.{asked, Performs, stays_performs}
 use Rattle.p2p_net_node.proofs.Readying.{started_is}
 use Rattle.p2p_net_connecting.proofs.Refusing.{unread_performs, refused_performs}
 use Rattle.p2p_net_connecting.proofs.Taking.{stepped_as}
+use Rattle.p2p_log_rules.proofs.Channels.{up_lasts}
 
 limit_here : (configs : List Config) (n : ℕ) (x : Node) → OwnStands configs n x → x.config.max_message_size ≡ limit_at configs n
 limit_here configs n x s = sym (ap (λ (o : Option Config). elim o [ None ↦ 0 | Some c ↦ c.max_message_size ]) s.config)
@@ -85,7 +86,7 @@ module _ (configs : List Config) (log : List Entry) (at seed conn n : ℕ) (half
 
     by_broken : line log (queue.Held n conn) ≡ [] → line log p ≡ [] → (b : Bool) → is_broken log half.link u ≡ b → ReadsNone b (length log) n conn half x y l links r → Done
     by_broken none first false gone d = waits (none_row none first false gone) d.0.0 d.0.1 d.1
-    by_broken none first true gone d = unread_performs configs log at seed conn n half x y l links r s t has begun running (heard running) (none_row none first true gone) d
+    by_broken none first true gone d = unread_performs configs log at seed conn n half x y l links r s (up_lasts log n up) t has begun running (heard running) (none_row none first true gone) d
 
     by_frames : (fs : List Envelope) → line log (queue.Held n conn) ≡ [] → line log p ≡ fs → ReceivesBy (slice_get fs 0) (length log) n conn at half x y l links r → Done
     by_frames [] none first d =
@@ -94,7 +95,7 @@ module _ (configs : List Config) (log : List Entry) (at seed conn n : ℕ) (half
         let limit : x.config.max_message_size ≡ limit_at configs n = limit_here configs n x s.own in
         off_performs configs log at seed conn n half x y l links r s t late up has running f fs first (arrival_in (limit_at configs n) f.item) refl
         (stepped configs log at seed conn n half x y l links r s t late up has running f fs first none (first_has StandsFit log p f fs fitting first))
-        (refused_performs configs log at seed conn n half x y l links r s t has begun running (heard running) f fs first)
+        (refused_performs configs log at seed conn n half x y l links r s (up_lasts log n up) t has begun running (heard running) f fs first)
         (subst (λ k. ReadsFrame (frame_in k (Some f)) (length log) n conn at half x y l links r) limit d)
 
     by_held : (ws : List Envelope) → line log (queue.Held n conn) ≡ ws → StepsBy (slice_get ws 0) (length log) n conn at half x y l links r → Done

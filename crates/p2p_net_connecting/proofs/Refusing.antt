@@ -48,6 +48,7 @@ use Rattle.p2p_net_connecting.proofs.HaveLeft.{HaveLeft}
 use Rattle.p2p_net_connecting.proofs.Killed.{left_first, first_apart}
 use Rattle.p2p_net_node.proofs.Performing.{asked, Performs}
 use Rattle.p2p_net_connecting.proofs.Taking.{link_held}
+use Rattle.p2p_log_rules.specs.Facts.{is_stopped}
 
 -- one direction of the links that was changed
 way_changed : (l : Links) (u : Side) (w : List (ℕ × List Envelope)) → way_of (with_way l u w) u ≡ w
@@ -70,7 +71,7 @@ same_place link = grind (arith, nat_tests)
 
 -- ---- what is left
 
-module _ (configs : List Config) (log : List Entry) (n conn : ℕ) (half : Half) (x : Node) (l : Links) (s : NodeStands configs log n x) (t : LinksStand configs log l) where
+module _ (configs : List Config) (log : List Entry) (n conn : ℕ) (half : Half) (x : Node) (l : Links) (s : NodeStands configs log n x) (lasts : is_stopped log n ≡ false) (t : LinksStand configs log l) where
   abbrev u : Side
   u = other_side half.writes
 
@@ -78,7 +79,7 @@ module _ (configs : List Config) (log : List Entry) (n conn : ℕ) (half : Half)
   p = queue.Link half.link u
 
   routes : RouterStands configs log n x.router
-  routes = s.each place.router
+  routes = (s.each place.router).runs lasts
 
   tracks : TrackerStands configs log n x.tracker
   tracks = s.each place.tracker
@@ -144,14 +145,14 @@ module _ (configs : List Config) (log : List Entry) (n conn : ℕ) (half : Half)
 
 -- ---- the end
 
-module _ (configs : List Config) (log : List Entry) (at seed conn n : ℕ) (half : Half) (x y : Node) (l links : Links) (r : Row) (s : NodeStands configs log n x) (t : LinksStand configs log l)
+module _ (configs : List Config) (log : List Entry) (at seed conn n : ℕ) (half : Half) (x y : Node) (l links : Links) (r : Row) (s : NodeStands configs log n x) (lasts : is_stopped log n ≡ false) (t : LinksStand configs log l)
     (has : live_half log n conn ≡ Some half) (begun : is_begun log n conn ≡ true) (running : has_run log n conn ≡ true)
     (heard : Each (λ z. names_ready conn z.item ≡ false) (line log (queue.Router n))) where
   -- none will come
   pub unread_performs : row configs log at seed (act.RecvStep conn n) ≡ end_row log n conn half ended.ReceiveFailed cause.ConnectionEnded []
       → EndsUnread (length log) n conn half x y l links r → Performs configs log (asked at seed (act.RecvStep conn n)) n y links r
   unread_performs is d =
-      received_end_performs configs log at seed n conn half ended.ReceiveFailed cause.ConnectionEnded [] x x y l l links r s has begun running heard is (nothing_taken configs log n conn half x l s t) d
+      received_end_performs configs log at seed n conn half ended.ReceiveFailed cause.ConnectionEnded [] x x y l l links r s lasts has begun running heard is (nothing_taken configs log n conn half x l s lasts t) d
 
   -- the first is refused
   pub refused_performs : (f : Envelope) (fs : List Envelope) → line log (queue.Link half.link (other_side half.writes)) ≡ f ∷ fs → (why : Ended) (c : Cause)
@@ -159,7 +160,7 @@ module _ (configs : List Config) (log : List Entry) (at seed conn n : ℕ) (half
       → Performs configs log (asked at seed (act.RecvStep conn n)) n y links r
   refused_performs f fs first why c is d =
       let m = without_first l half.link (other_side half.writes) in
-      received_end_performs configs log at seed n conn half why c (f ∷ []) x x y l m links r s has begun running heard is (first_taken configs log n conn half x l s t f fs first)
+      received_end_performs configs log at seed n conn half why c (f ∷ []) x x y l m links r s lasts has begun running heard is (first_taken configs log n conn half x l s lasts t f fs first)
       (subst (λ (o : Row). Ends (length log) n conn half x y m links o r) begins_with d)
     where
       begins_with : ending_for why c (slice_get (waiting (way_of l (other_side half.writes)) half.link) 0) ≡ took_row why c (f ∷ [])

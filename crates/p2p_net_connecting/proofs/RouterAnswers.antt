@@ -23,7 +23,7 @@ use Rattle.p2p_log_rules.specs.Dropping.{half_end}
 use Rattle.p2p_log_rules.specs.Connections.{half_at, live_half, is_done, begins, runs, is_begun, is_answer, has_run, is_running, is_end}
 use Rattle.p2p_log_rules.specs.Effect.{only, row, effect, takes_oldest, half_row, sender_row, send_step_row}
 use Rattle.p2p_log_rules.specs.Pings.{ping_frequency_at, is_past, ping_is_due}
-use Rattle.p2p_log_rules.specs.Facts.{is_up, stops, turns, registers_at, taken, item_named}
+use Rattle.p2p_log_rules.specs.Facts.{is_up, stops, turns, registers_at, taken, item_named, is_stopped}
 use Rattle.p2p_log_rules.proofs.Families.{kinds_of, are_apart}
 use Rattle.p2p_log_rules.proofs.Recorded.{item_named-first}
 use Rattle.p2p_log_rules.proofs.Spawning.{connections_of-unmade}
@@ -52,7 +52,7 @@ use Rattle.p2p_net_tracker.specs.Stands.{is_told, asks_of, TrackerStands}
 use Rattle.p2p_net_tracker.proofs.Changes.{tracker_frame}
 use Rattle.p2p_net_connecting.specs.Connecting.{Runs}
 use Rattle.p2p_net_node.specs.Places as place
-use Rattle.p2p_net_node.specs.Stands.{RouterStands, NodeStands}
+use Rattle.p2p_net_node.specs.Stands.{RouterStands, NodeStands, RouterLives}
 use Rattle.p2p_net_node.specs.declared.node.Node.{Node}
 use Rattle.p2p_net_node.proofs.EachPart.{with_parts, each_part, not_among-links}
 use Rattle.p2p_net_node.proofs.Receivers.{receives_apart}
@@ -64,6 +64,8 @@ use Rattle.p2p_log_rules.proofs.Routing.{route_kinds}
 use Rattle.p2p_log_rules.proofs.Steps.{steps_tracker, steps_spawner}
 use Rattle.p2p_log_rules.proofs.Answers.{takes_answer}
 use Rattle.p2p_net_tracker.proofs.Leaves.{LeavesTracker}
+use Rattle.p2p_log_rules.proofs.Channels.{up_lasts}
+use Rattle.p2p_net_node.proofs.Frames.{lives_on, lasts_after}
 
 -- the row of a step, where the node runs, by the half and how far it is
 pub half_steps : (configs : List Config) (log : List Entry) (conn n at : ℕ) (half : Half) (begun running : Bool) → is_up log n ≡ true → live_half log n conn ≡ Some half → is_begun log n conn ≡ begun → has_run log n conn ≡ running
@@ -231,7 +233,7 @@ run_performs configs log at seed conn n half [] x y l links r s t up has begun i
                   waits = λ c. waits_none (queue.Ready n) (same_ready n) log conn x.connections.answers cs.waits (sym (cs.waits conn) ∙ is) c ∙ (sym (cs.waits c) ∙ old.waits c);
                 }),
             (
-              subst (RouterStands configs (log ++ e ∷ []) n) (sym (ap (λ (z : Node). z.router) parts)) (part_still place.router configs log e n x (act.SendStep conn n) reply.Idle (s.each place.router) refl refl still),
+              subst (RouterLives configs (log ++ e ∷ []) n) (sym (ap (λ (z : Node). z.router) parts)) (part_still place.router configs log e n x (act.SendStep conn n) reply.Idle (s.each place.router) refl refl still),
               (
                 subst (TrackerStands configs (log ++ e ∷ []) n) (sym (ap (λ (z : Node). z.tracker) parts)) (part_still place.tracker configs log e n x (act.SendStep conn n) reply.Idle (s.each place.tracker) refl refl still),
                 tt,
@@ -244,7 +246,8 @@ run_performs configs log at seed conn n half (w ∷ ws) x y l links r s t up has
     let ev = asked at seed (act.SendStep conn n) in
     let e = effect configs log ev in
     let cs : ConnectionsStand configs log n x.connections = s.each place.connections in
-    let rout : RouterStands configs log n x.router = s.each place.router in
+    let lasts : is_stopped log n ≡ false = up_lasts log n up in
+    let rout : RouterStands configs log n x.router = (s.each place.router).runs lasts in
     let first : line log (queue.Ready n conn) ≡ w ∷ ws = sym (cs.waits conn) ∙ is in
     let row_is : send_step_row configs log conn n at ≡ takes_oldest (w ∷ ws) = half_steps configs log conn n at half true false up has begun idle ∙ ap takes_oldest first in
     let lives : is_end e.reply ≡ false = ap (λ (z : Row). is_end z.reply) row_is in
@@ -259,9 +262,10 @@ run_performs configs log at seed conn n half (w ∷ ws) x y l links r s t up has
           (λ p out. not_among-links named_parts p n out) refl refl (
             subst (ConnectionsStand configs (log ++ e ∷ []) n) (sym (ap (λ (z : Node). z.connections) parts)) (took_stands configs log e n conn x.connections w ws cs (pings_by configs log n x.connections cs ev) begun idle refl (ap (λ (z : Row). z.reply) row_is) takes),
             (
-              subst (RouterStands configs (log ++ e ∷ []) n) (sym (ap (λ (z : Node). z.router) parts))
+              subst (RouterLives configs (log ++ e ∷ []) n) (sym (ap (λ (z : Node). z.router) parts)) (
+                  lives_on configs (log ++ e ∷ []) n x.router (lasts_after configs log ev n lasts refl)
                   (RouterStands-moved configs log e n x.router x.router rout (step_hears log e n conn refl lives begun)
-                  (stands_begun configs log e x.router conn n rout.stands (step_beside configs log e x.router.number conn n refl lives) (takes.takes ∙ sym (ap (λ vs. (takes_oldest vs).takes) first)) takes.puts takes.ends) refl refl),
+                  (stands_begun configs log e x.router conn n rout.stands (step_beside configs log e x.router.number conn n refl lives) (takes.takes ∙ sym (ap (λ vs. (takes_oldest vs).takes) first)) takes.puts takes.ends) refl refl)),
               (
                 subst (TrackerStands configs (log ++ e ∷ []) n) (sym (ap (λ (z : Node). z.tracker) parts))
                     (tracker_frame configs log e n x.tracker (s.each place.tracker)

@@ -10,7 +10,7 @@ use Rattle.p2p_log.specs.declared.event.Act.TheVariants as act
 use Rattle.p2p_log.specs.Lines.{line, live, placed, stands_in}
 use Rattle.p2p_log.proofs.Lines.{live-append}
 use Rattle.p2p_log_rules.specs.declared.row.Row.{Row}
-use Rattle.p2p_log_rules.specs.Facts.{is_up}
+use Rattle.p2p_log_rules.specs.Facts.{is_up, is_stopped}
 use Rattle.p2p_log_rules.proofs.Spawning.{connections_of-unmade}
 use Rattle.p2p_log_rules.specs.Effect.{only, row, effect, entry_of, route_oldest, router_row}
 use Rattle.p2p_net_router.specs.Holds.{Adds}
@@ -28,11 +28,12 @@ use Rattle.p2p_net_node.specs.Stands.{RouterStands, NodeStands}
 use Rattle.p2p_net_node.specs.declared.node.Node.{Node}
 use Rattle.p2p_net_node.proofs.EachPart.{with_parts, each_part, not_among}
 use Rattle.p2p_log_laws.proofs.Untouched.{line-untouched}
-use Rattle.p2p_net_node.proofs.Frames.{links_kept, begins_unsent}
+use Rattle.p2p_net_node.proofs.Frames.{links_kept, begins_unsent, lives_on, lasts_after}
 use Rattle.p2p_net_node.proofs.Receivers.{receives_apart}
 use Rattle.p2p_net_node.proofs.Routers.{hears_aside, RouterStands-moved}
 use Rattle.p2p_net_node.proofs.Performing.{asked, Performs, stays_performs}
 use Rattle.p2p_log_rules.proofs.Connections.{live_connection-kept, ends_untold}
+use Rattle.p2p_net_node.proofs.Readying.{lasts_started, started_is}
 
 -- the line of a queue to which the row adds
 line-adds : (log : List Entry) (ev : Event) (r : Row) (n c : ℕ) → Adds (length log) r (live log) (queue.Ready n c)
@@ -48,15 +49,15 @@ route_on : (configs : List Config) (log : List Entry) (at seed n : ℕ) (b : Boo
     → is_started x ≡ b → RoutesBy b (length log) n x y r → links ≡ l → Performs configs log (asked at seed (act.Router n)) n y links r
 unfolding effect row
 route_on configs log at seed n false x y l links r s t started d kept =
-    let rout : RouterStands configs log n x.router = s.each place.router in
-    let up : is_up log n ≡ false = ap (is_up log) (sym rout.number) ∙ (sym rout.stands.bound ∙ started) in
+    let up : is_up log n ≡ false = sym (started_is configs log n x s) ∙ started in
     stays_performs configs log (asked at seed (act.Router n)) n x y l links r reply.Gone s t (routed_by configs log n false up) refl d.0 d.1 kept
 route_on configs log at seed n true x y l links r s t started d kept =
     let ev = asked at seed (act.Router n) in
     let e = effect configs log ev in
-    let rout : RouterStands configs log n x.router = s.each place.router in
+    let lasts : is_stopped log n ≡ false = lasts_started configs log n x s started in
+    let rout : RouterStands configs log n x.router = (s.each place.router).runs lasts in
     let conn : ConnectionsStand configs log n x.connections = s.each place.connections in
-    let up : is_up log n ≡ true = ap (is_up log) (sym rout.number) ∙ (sym rout.stands.bound ∙ started) in
+    let up : is_up log n ≡ true = sym (started_is configs log n x s) ∙ started in
     let parts : y ≡ record x { router = y.router; connections = record x.connections { answers = answered (length log) n 0 r.puts x.connections.answers } } = d.0 in
     let calls = d.1 in
     let row_is : r ≡ router_row configs log n =
@@ -74,9 +75,10 @@ route_on configs log at seed n true x y l links r s t started d kept =
       node =
           each_part configs log ev n x y (place.router ∷ place.connections ∷ []) s (subst (λ z. z ≡ with_parts (place.router ∷ place.connections ∷ []) x z) (sym parts) refl)
           (λ p out. not_among (place.router ∷ place.connections ∷ []) p n n out) refl refl (
-            RouterStands-moved configs log e n x.router y.router rout (hears_aside log e n (act.Router n) refl refl)
+            lives_on configs (log ++ e ∷ []) n y.router (lasts_after configs log ev n lasts refl)
+                (RouterStands-moved configs log e n x.router y.router rout (hears_aside log e n (act.Router n) refl refl)
                 (subst (λ (z : Row). StandsFor configs (log ++ entry_of ev z ∷ []) y.router) row_is (calls.stands configs log ev rout.stands refl (ap act.Router (sym rout.number))))
-                (ap (λ (z : Router). z.number) calls.rest) (ap (λ (z : Router). z.peers) calls.rest),
+                (ap (λ (z : Router). z.number) calls.rest) (ap (λ (z : Router). z.peers) calls.rest)),
             (
               subst (ConnectionsStand configs (log ++ e ∷ []) n) (sym (ap (λ (z : Node). z.connections) parts))
                   (connections_answered configs log e n x.connections (answered (length log) n 0 r.puts x.connections.answers) conn (λ c. live_connection-kept log e n c (ends_untold log e n c (act.Router n) refl refl) (connections_of-unmade log e n refl c)) (begins_unsent log e n (act.Router n) refl (λ c. refl))

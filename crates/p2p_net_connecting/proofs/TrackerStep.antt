@@ -11,7 +11,6 @@ use Rattle.p2p_log_rules.specs.TrackerRows.{tracker_step}
 use Rattle.p2p_net_links.specs.Stands.{LinksStand}
 use Rattle.p2p_net_links.specs.declared.links.Links.{Links}
 use Rattle.p2p_net_tracker.specs.Stands.{AsksRun, TrackerStands}
-use Rattle.p2p_net_tracker.specs.declared.tracker.Tracker.{Tracker}
 use Rattle.p2p_net_tracker.proofs.Steps.{tracker_steps, gone_stands}
 use Rattle.p2p_net_node.specs.Places.{tracker}
 use Rattle.p2p_net_node.specs.Ready.{is_started}

@@ -18,7 +18,7 @@ use Rattle.p2p_log_rules.specs.Connections.{live_half, is_begun, has_run}
 use Rattle.p2p_log_rules.specs.Cutting.{is_broken}
 use Rattle.p2p_log_rules.specs.Effect.{row, write_row, batch_size_at, beside_ping, batch, written_row, told_to_end_row, running_row, mailbox_size_at, other_side}
 use Rattle.p2p_log_rules.specs.Ending.{end_row}
-use Rattle.p2p_log_rules.specs.Facts.{is_up}
+use Rattle.p2p_log_rules.specs.Facts.{is_up, is_stopped}
 use Rattle.p2p_log_rules.specs.Pings.{ping_is_due}
 use Rattle.p2p_net_queues.specs.Board.{held}
 use Rattle.p2p_net_queues.specs.Rows.{all_dropped}
@@ -41,6 +41,7 @@ use Rattle.p2p_net_connecting.proofs.Killed.{killed_left, killed_row}
 use Rattle.p2p_net_node.proofs.Performing.{asked, Performs}
 use Rattle.p2p_net_connecting.proofs.RouterAnswers.{half_steps}
 use Rattle.p2p_net_connecting.proofs.Writing.{batch_is, write_performs}
+use Rattle.p2p_log_rules.proofs.Channels.{up_lasts}
 
 -- ---- the rule's row
 
@@ -92,8 +93,11 @@ module _ (configs : List Config) (log : List Entry) (at seed conn n : ℕ) (half
   tracks : TrackerStands configs log n x.tracker
   tracks = s.each place.tracker
 
+  lasts : is_stopped log n ≡ false
+  lasts = up_lasts log n up
+
   routes : RouterStands configs log n x.router
-  routes = s.each place.router
+  routes = (s.each place.router).runs lasts
 
   abbrev most : ℕ
   most = beside_ping due (batch_size_at configs n)
@@ -120,14 +124,14 @@ module _ (configs : List Config) (log : List Entry) (at seed conn n : ℕ) (half
   killed : (nat_lt 0 most && is_some (slice_get (line log (queue.Control n conn)) 0)) ≡ true → EndsKilled (length log) n conn half x y l links r → Done
   killed h d =
       let to = is_told (line log (queue.Control n conn)) (nat_lt 0 most) h in
-      let gone = killed_left configs log n conn half to.k to.rest x d.told_less l s t to.is d.told d.tracker d.rest in
-      sent_end_performs configs log at seed n conn half ended.Killed cause.ConnectionEnded (to.k ∷ []) x d.told_less y l l links r s has begun running heard
+      let gone = killed_left configs log n conn half to.k to.rest x d.told_less l s lasts t to.is d.told d.tracker d.rest in
+      sent_end_performs configs log at seed n conn half ended.Killed cause.ConnectionEnded (to.k ∷ []) x d.told_less y l l links r s lasts has begun running heard
       (row_told
       ∙ (ap (λ cs. told_to_end_row log n conn half cs (nat_lt 0 most) written) to.is
       ∙ ap (λ b. told_to_end_row log n conn half (to.k ∷ to.rest) b written) to.has_room))
       gone
       (subst (λ (z : Row). Ends (length log) n conn half d.told_less y l links z r)
-      (killed_row configs log n conn half to.k to.rest x d.told_less l s t to.is d.told d.tracker d.rest) d.ends)
+      (killed_row configs log n conn half to.k to.rest x d.told_less l s lasts t to.is d.told d.tracker d.rest) d.ends)
 
   module _ (d : Writes (length log) n conn at half due x y l links r) (quiet : (nat_lt 0 most && is_some (slice_get (line log (queue.Control n conn)) 0)) ≡ false) where
     took : d.frames ≡ map named (batch log n conn most)
@@ -148,17 +152,17 @@ module _ (configs : List Config) (log : List Entry) (at seed conn n : ℕ) (half
     ends_unwritten h ends =
         let xs = batch log n conn most in
         let same : batch_of n conn (beside_ping due x.config.send_batch_size) (live log) ≡ xs = batch_is log n conn (beside_ping due x.config.send_batch_size) ∙ ap (batch log n conn) size_is in
-        sent_end_performs configs log at seed n conn half ended.SendFailed cause.ConnectionEnded xs x d.batched y l l links r s has begun running heard
+        sent_end_performs configs log at seed n conn half ended.SendFailed cause.ConnectionEnded xs x d.batched y l l links r s lasts has begun running heard
         (row_written ∙ written_row-broken log n conn half broken due xs h)
         (subst (λ v. HaveLeft configs log n conn half v x d.batched l l) same
-        (batch_left configs log n conn (beside_ping due x.config.send_batch_size) half x d.batched l d.frames s t d.batches d.kept))
+        (batch_left configs log n conn (beside_ping due x.config.send_batch_size) half x d.batched l d.frames s lasts t d.batches d.kept))
         (subst (λ (z : Row). Ends (length log) n conn half d.batched y l links z r)
         (ap (λ fs. all_dropped cause.ConnectionEnded fs (ending ended.SendFailed)) took ∙ all_dropped-row ended.SendFailed cause.ConnectionEnded [] [] xs) ends)
 
     by_link : (b : Bool) → (has_more due (map named (batch log n conn most)) && broken) ≡ b → WritesTo b (length log) n conn at half due d.frames d.batched y l links r → Done
     by_link true h ends = ends_unwritten h ends
     by_link false h writes =
-        write_performs configs log at seed conn n half due x d.batched y l links r s t begun running pings d.frames d.batches d.kept
+        write_performs configs log at seed conn n half due x d.batched y l links r s lasts t begun running pings d.frames d.batches d.kept
         (row_written ∙ written_row-whole log n conn half broken due (batch log n conn most) h) writes
 
     writes_perform : Done

@@ -47,14 +47,15 @@ use Rattle.p2p_net_tracker.proofs.Changes.{tracker_frame}
 use Rattle.p2p_net_connecting.specs.Connecting.{WritesFrames}
 use Rattle.p2p_net_node.specs.Places as place
 use Rattle.p2p_net_node.specs.Routing as routing
-use Rattle.p2p_net_node.specs.Stands.{RouterStands, NodeStands}
+use Rattle.p2p_net_node.specs.Stands.{RouterStands, NodeStands, RouterLives}
 use Rattle.p2p_net_node.specs.declared.node.Node.{Node}
 use Rattle.p2p_net_node.proofs.EachPart.{with_parts, each_part, not_among-links}
 use Rattle.p2p_net_node.proofs.Routers.{RouterStands-moved}
 use Rattle.p2p_net_node.proofs.Performing.{asked, Performs}
 use Rattle.p2p_net_connecting.proofs.RouterAnswers.{step_beside, step_begins, other_begins, step_receives, step_hears, step_drops, named_parts, step_untold, still_runs}
-use Rattle.p2p_log_rules.specs.Facts.{stops}
+use Rattle.p2p_log_rules.specs.Facts.{stops, is_stopped}
 use Rattle.p2p_log_rules.proofs.Steps.{steps_spawner}
+use Rattle.p2p_net_node.proofs.Frames.{lives_on, lasts_after}
 
 -- an item, to a queue
 abbrev put_frame : Queue → (ℕ × ℕ) × Item → Queue × Item
@@ -166,7 +167,7 @@ due_is configs log n conn at pinged x s is =
     ap (is_past (ping_frequency_at configs n) at) (sym (cs.pinged conn) ∙ ap pinged_on is)
     ∙ ap (λ (o : Option Config). is_past (elim o [ None ↦ 0 | Some c ↦ c.ping_frequency ]) at (Some pinged)) s.own.config
 
-module _ (configs : List Config) (log : List Entry) (at seed conn n : ℕ) (half : Half) (due : Bool) (x w y : Node) (l links : Links) (r : Row) (s : NodeStands configs log n x) (t : LinksStand configs log l)
+module _ (configs : List Config) (log : List Entry) (at seed conn n : ℕ) (half : Half) (due : Bool) (x w y : Node) (l links : Links) (r : Row) (s : NodeStands configs log n x) (lasts : is_stopped log n ≡ false) (t : LinksStand configs log l)
     (begun : is_begun log n conn ≡ true) (running : has_run log n conn ≡ true) (pings : ping_is_due configs log n conn at ≡ due)
     (frames : List ((ℕ × ℕ) × Item)) (calls : routing.Batches conn (beside_ping due x.config.send_batch_size) x.router w.router frames) (others : w ≡ record x { router = w.router })
     (row_is : row configs log at seed (act.SendStep conn n) ≡ write_row (queue.Link half.link half.writes) due (batch log n conn (beside_ping due (batch_size_at configs n))))
@@ -181,7 +182,7 @@ module _ (configs : List Config) (log : List Entry) (at seed conn n : ℕ) (half
   connects = s.each place.connections
 
   routes : RouterStands configs log n x.router
-  routes = s.each place.router
+  routes = (s.each place.router).runs lasts
 
   abbrev q : Queue
   q = queue.Link half.link half.writes
@@ -289,7 +290,7 @@ module _ (configs : List Config) (log : List Entry) (at seed conn n : ℕ) (half
         (λ p out. not_among-links named_parts p n out) refl refl (
           subst (ConnectionsStand configs (log ++ e ∷ []) n) (sym (ap (λ (z : Node). z.connections) parts)) connections_now,
           (
-            subst (RouterStands configs (log ++ e ∷ []) n) (sym (ap (λ (z : Node). z.router) parts)) router_now,
+            subst (RouterLives configs (log ++ e ∷ []) n) (sym (ap (λ (z : Node). z.router) parts)) (lives_on configs (log ++ e ∷ []) n w.router (lasts_after configs log ev n lasts refl) router_now),
             (subst (TrackerStands configs (log ++ e ∷ []) n) (sym (ap (λ (z : Node). z.tracker) parts)) tracker_now, tt),
           ),
         );

@@ -1,6 +1,5 @@
 //! What the sending half of a connection does: it begins, takes its router's answer, and from then on writes batches.
 ghost use Rattle.std.specs.Prelude.{◌≡◌, ◌≤◌, ◌&&◌, IfOk, OnOk, IsTrue};
-ghost use Rattle.p2p_log_rules.specs.Connections.{side_at as side_at_node};
 ghost use Rattle.p2p_router.specs.Messenger.{is_bound};
 ghost use Rattle.p2p_log_rules.specs.Effect.{beside_ping as beside_a_ping, other_side as other_side_of};
 ghost use Rattle.p2p_net_links.specs.Cutting.{is_broken_at};
@@ -8,20 +7,13 @@ ghost use Rattle.p2p_net_connecting.specs.Connecting.{half_by, has_more, Begins,
 
 use crate::ending::{end_killed, end_unwritten, other_side};
 use p2p_base::{Key, List};
-use p2p_log::{Item, Queue, Reply, Side};
+use p2p_log::{Item, Queue, Reply};
 use p2p_log_rules::{Half, Row};
 use p2p_net_connections::{Stage, is_past};
-use p2p_net_links::Links;
+use p2p_net_links::{Links, side_at};
 use p2p_net_node::Node;
 use p2p_net_queues::{Turn, only};
 use std::alloc::AllocError;
-
-/// The direction in which a node writes to a link, by the node that dialed it.
-fn side_at(node: u64, dialer: u64) -> Side
-    ensures { result ≡ side_at_node node dialer }
-{
-    if dialer == node { Side::Out } else { Side::In }
-}
 
 /// How many messages a batch of this size has beside its ping, where it has one.
 fn beside_ping(due: bool, size: usize) -> usize

@@ -39,12 +39,13 @@ fn drop_waiting(
     ensures does { OnOk result (DropsWaiting turn.node conn half node.old node.new links.old links.new row.old row.new) }
     ensures failed { OnOk result (node.new.failed ≡ node.old.failed) }
 {
+    let cause = Cause::ConnectionEnded;
     let frames = node.router.take_all(turn.alloc, conn)?;
-    drop_named(row, frames.as_slice(), Cause::ConnectionEnded)?;
-    node.connections.drop_held(turn.alloc, row, conn)?;
+    drop_named(row, frames.as_slice(), cause)?;
+    node.connections.drop_held(turn.alloc, row, conn, cause)?;
     node.tracker.drop_control(turn, conn, row)?;
-    node.connections.drop_answers(turn.alloc, row, conn)?;
-    Ok(links.drop_end(turn.alloc, row, half.link, half.writes)?)
+    node.connections.drop_answers(turn.alloc, row, conn, cause)?;
+    Ok(links.drop_end(turn.alloc, row, half.link, half.writes, cause)?)
 }
 
 /// The router is told that the peer of a connection is free, and then the tracker, as the row's next puts.

@@ -1,5 +1,5 @@
 //! The steps of the router, of the tracker and of the spawner.
-ghost use Rattle.std.specs.Prelude.{◌≡◌, ℕ, IfOk, OnOk, IfSome};
+ghost use Rattle.std.specs.Prelude.{◌≡◌, ℕ, true, IfOk, OnOk, IfSome};
 ghost use Rattle.p2p_log_rules.specs.Tracking.{key_cmp};
 ghost use Rattle.p2p_tracker_mailbox.specs.Desk.{next_message};
 ghost use Rattle.p2p_tracker.specs.Serving.{MayTake};
@@ -28,7 +28,7 @@ pub fn route(node: &mut Node, turn: Turn) -> Result<Row, AllocError>
 
 /// One step of the tracker, at a moment and with a seed.
 pub fn track_step(node: &mut Node, turn: Turn, at: u64, seed: u64) -> Result<Row, AllocError>
-    requires { (now : ℕ) → IfSome (next_message node.old.tracker.mailbox.desk) (λ m. MayTake key_cmp node.old.tracker.actor.directory m now) }
+    requires { is_started_test node.old ≡ true → (now : ℕ) → IfSome (next_message node.old.tracker.mailbox.desk) (λ m. MayTake key_cmp node.old.tracker.actor.directory m now) }
     ensures does { IfOk result (λ r. TrackerStepsBy (is_started_test node.old) turn.entry turn.node at seed node.old node.new r) }
     ensures failed { OnOk result (node.new.failed ≡ node.old.failed) }
 {

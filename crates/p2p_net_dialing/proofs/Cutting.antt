@@ -31,7 +31,7 @@ use Rattle.p2p_net_links.proofs.Cuts.{CutsLink, can_be_cut_is, links_cut}
 use Rattle.p2p_net_dialing.specs.Cutting.{IsCut}
 use Rattle.p2p_net_node.specs.Stands.{NodeStands, WorldStands}
 use Rattle.p2p_net_node.specs.declared.node.Node.{Node}
-use Rattle.p2p_net_node.proofs.Frames.{lasts_unnamed, part_frame}
+use Rattle.p2p_net_node.proofs.Frames.{life_unnamed, part_frame}
 use Rattle.p2p_net_node.proofs.Performing.{asked, Simulates, links_still, effect-still}
 
 module _ (configs : List Config) (log : List Entry) (moment seed link : ℕ) where
@@ -89,7 +89,7 @@ module _ (configs : List Config) (log : List Entry) (moment seed link : ℕ) whe
 
   -- no node is named
   nodes_after : (m : ℕ) (z : Node) → NodeStands configs log m z → is_begun log m (length log) ≡ false → NodeStands configs (log ++ effect configs log ev ∷ []) m z
-  nodes_after m z s fresh = record { own = s.own; lasts = lasts_unnamed configs log ev m s.lasts refl; each = λ p. part_frame p configs log ev m z (s.each p) refl (λ makes. fresh) }
+  nodes_after m z s fresh = record { own = s.own; life = life_unnamed configs log ev m z.stopped s.life refl; each = λ p. part_frame p configs log ev m z (s.each p) refl (λ makes. fresh) }
 
 pub cut_simulates : (configs : List Config) (log : List Entry) (moment seed link : ℕ) (nodes new : List Node) (l links : Links) (r : Row) → WorldStands configs log nodes l → ((m : ℕ) → is_begun log m (length log) ≡ false)
     → IsCut link nodes new l links r → Simulates configs log (asked moment seed (act.Cut link)) new links r

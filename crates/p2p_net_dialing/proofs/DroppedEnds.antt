@@ -25,7 +25,7 @@ use Rattle.p2p_log_rules.specs.Dropping.{LinkEnd, other_side, frames_towards, dr
 use Rattle.p2p_log_rules.specs.Effect.{row, effect, entry_of}
 use Rattle.p2p_log_rules.specs.Facts.{stops}
 use Rattle.p2p_log_rules.proofs.Moves.{all_end-gone}
-use Rattle.p2p_log_laws.proofs.Emptying.{line_gone}
+use Rattle.p2p_log_rules.proofs.Left.{line_gone}
 use Rattle.p2p_net_queues.proofs.Going.{line-append}
 use Rattle.p2p_net_links.specs.Dropping.{end_dropped}
 use Rattle.p2p_net_links.specs.Stands.{LinksStand}

@@ -25,7 +25,7 @@ use Rattle.p2p_log.proofs.Queues.{same_queue-refl}
 use Rattle.p2p_log.proofs.Taken.{other_left}
 use Rattle.p2p_log_rules.specs.Attempting.{left_ends}
 use Rattle.p2p_log_rules.specs.declared.row.Row.{Row}
-use Rattle.p2p_log_laws.proofs.Emptying.{line_gone}
+use Rattle.p2p_log_rules.proofs.Left.{line_gone}
 use Rattle.p2p_log_laws.proofs.LineShape.{left_gone}
 use Rattle.p2p_net_queues.proofs.Going.{put_in, line-append}
 use Rattle.p2p_net_connections.specs.Spawner.{refuses, told_row, spawned, given_back, released}

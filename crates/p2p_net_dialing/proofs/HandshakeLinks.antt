@@ -15,7 +15,6 @@ use Rattle.p2p_log_rules.proofs.Dropping.{all_of, drops_of-handshake}
 use Rattle.p2p_log_rules.specs.Effect.{entry_of}
 use Rattle.p2p_log_rules.specs.Handshakes.{peer_at}
 use Rattle.p2p_log_rules.specs.Handshaking as log_rule
-use Rattle.p2p_log_rules.specs.Handshaking.{handshake_deadline, ended_row, exchanged_row}
 use Rattle.p2p_log_laws.proofs.HandedSides.{HandshakeDialed}
 use Rattle.p2p_net_queues.specs.Tables as table
 use Rattle.p2p_net_links.specs.Stands.{LinksStand}

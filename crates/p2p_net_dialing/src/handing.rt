@@ -5,7 +5,7 @@ ghost use Rattle.p2p_net_dialing.specs.Spawning.{Spawns, release_item};
 ghost use Rattle.p2p_net_dialing.specs.Dialing.{HandsOn, DropsUnless};
 
 use p2p_base::Key;
-use p2p_log::{Item, Side};
+use p2p_log::{Cause, Item, Side};
 use p2p_log_rules::Row;
 use p2p_net_links::Links;
 use p2p_net_node::Node;
@@ -75,5 +75,5 @@ pub(crate) fn drop_unless(
     if kept {
         return Ok(());
     }
-    Ok(links.drop_end(alloc, row, link, side)?)
+    Ok(links.drop_end(alloc, row, link, side, Cause::ConnectionEnded)?)
 }

@@ -15,10 +15,10 @@ use Rattle.p2p_net_gates.specs.DialerStands.{DialerStands}
 use Rattle.p2p_net_gates.specs.ListenerStands.{ListenerStands}
 use Rattle.p2p_net_connections.specs.SpawnerStands.{SpawnerStands}
 use Rattle.p2p_net_node.specs.Places.{Part, router, channels, connections, tracker, dialer, listener, spawner, code, same_part, at, links, parts_of, and_links, same_place, names}
-use Rattle.p2p_net_node.specs.Stands.{RouterStands, PartStands, OwnStands, NodeStands}
+use Rattle.p2p_net_node.specs.Stands.{RouterLives, PartStands, OwnStands, NodeStands}
 use Rattle.p2p_net_node.specs.declared.node.Node.{Node}
 use Rattle.p2p_net_node.proofs.Touching.{first_false, second_false}
-use Rattle.p2p_net_node.proofs.Frames.{MakesUnbegun, makes_none, part_frame, lasts_after}
+use Rattle.p2p_net_node.proofs.Frames.{MakesUnbegun, makes_none, part_frame, life_after}
 use Rattle.p2p_log_rules.proofs.Steps.{steps_spawner}
 
 abbrev pub is_in : Part → List Part → Bool
@@ -43,7 +43,7 @@ AllOf P (p ∷ ps) = P p × AllOf P ps
 
 -- a part that is not one of these stays as it was
 kept_part : (p : Part) (ps : List Part) (configs : List Config) (log : List Entry) (n : ℕ) (x y : Node) → is_in p ps ≡ false → PartStands p configs log n x → PartStands p configs log n (with_parts ps x y)
-kept_part router ps configs log n x y out s = subst (RouterStands configs log n) (sym (ap (λ b. cond b y.router x.router) out)) s
+kept_part router ps configs log n x y out s = subst (RouterLives configs log n) (sym (ap (λ b. cond b y.router x.router) out)) s
 kept_part channels ps configs log n x y out s = subst (ChannelsStand configs log n) (sym (ap (λ b. cond b y.channels x.channels) out)) s
 kept_part connections ps configs log n x y out s = subst (ConnectionsStand configs log n) (sym (ap (λ b. cond b y.connections x.connections) out)) s
 kept_part tracker ps configs log n x y out s = subst (TrackerStands configs log n) (sym (ap (λ b. cond b y.tracker x.tracker) out)) s
@@ -106,7 +106,7 @@ pub each_part-made :
     → AllOf (λ p. PartStands p configs (log ++ effect configs log ev ∷ []) n y) ps → NodeStands configs (log ++ effect configs log ev ∷ []) n y
 each_part-made configs log ev n x y ps s same unnamed late goes_on all = record {
   own = subst (OwnStands configs n) (sym same) (record { config = s.own.config; retained = s.own.retained; works = s.own.works });
-  lasts = lasts_after configs log ev n s.lasts goes_on;
+  life = ap (λ (z : Node). z.stopped) same ∙ life_after configs log ev n x.stopped s.life goes_on;
   each = λ p. by p (is_in p ps) refl;
 }
   where

@@ -17,7 +17,7 @@ use Rattle.p2p_log.specs.declared.event.Act.{Act}
 use Rattle.p2p_log.specs.declared.event.Act.TheVariants as act
 use Rattle.p2p_log.specs.Lines.{live, line, stands_in}
 use Rattle.p2p_log_rules.specs.Connections.{is_done, begins, is_begun, ends_connection}
-use Rattle.p2p_log_rules.specs.Facts.{stops, turns, is_stopped, registers_at, with_capacity, taken}
+use Rattle.p2p_log_rules.specs.Facts.{stops, turns, is_stopped, registers_at, with_capacity}
 use Rattle.p2p_log_rules.proofs.Channels.{is_stopped-kept}
 use Rattle.p2p_log_rules.proofs.Families.{kinds_of, are_apart}
 use Rattle.p2p_log_rules.proofs.Spawning.{connections_of-unmade}
@@ -37,6 +37,7 @@ use Rattle.p2p_net_router.specs.Stands.{RoutesNothing, IsBeside}
 use Rattle.p2p_net_router.specs.declared.router.Router.{Router}
 use Rattle.p2p_net_router.proofs.Beside.{stands_beside}
 use Rattle.p2p_net_router.proofs.Unrouted.{unrouted_apart, unrouted_elsewhere}
+use Rattle.p2p_net_router.proofs.Resting.{rests_kept}
 use Rattle.p2p_net_channels.proofs.Changes.{channels_frame}
 use Rattle.p2p_net_connections.specs.Stands.{BeginsNone}
 use Rattle.p2p_net_connections.proofs.Changes.{connections_frame}
@@ -47,7 +48,7 @@ use Rattle.p2p_log_rules.proofs.Dropping.{drops_none}
 use Rattle.p2p_net_links.proofs.Drops.{drops_none-act}
 use Rattle.p2p_net_connections.proofs.SpawnerChanges.{spawner_kept}
 use Rattle.p2p_net_node.specs.Places.{Part, router, channels, connections, tracker, dialer, listener, spawner, same_part, links, home, names, at, asked_node, or_first, node_asked}
-use Rattle.p2p_net_node.specs.Stands.{RouterStands, PartStands}
+use Rattle.p2p_net_node.specs.Stands.{RouterStands, PartStands, RouterLives}
 use Rattle.p2p_net_node.specs.declared.node.Node.{Node}
 use Rattle.p2p_net_node.proofs.ActKinds.{registers_unless, turns_unless, sends_unless}
 use Rattle.p2p_net_node.proofs.Receivers.{receives_unnamed, admits_unnamed, sends_unnamed, closes_unnamed}
@@ -62,6 +63,7 @@ use Rattle.p2p_log_rules.proofs.Routing.{route_kinds}
 use Rattle.p2p_log_rules.proofs.Steps.{steps_tracker, steps_spawner}
 use Rattle.p2p_log_rules.proofs.Answers.{takes_answer}
 use Rattle.p2p_log_rules.specs.Puts.{is_peer_set as gives_answer}
+use Rattle.p2p_net_router.specs.Resting.{RouterRests}
 
 -- the event of an effect, and its act
 pub effect-act : (configs : List Config) (log : List Entry) (ev : Event) → (effect configs log ev).event.act ≡ ev.act
@@ -105,9 +107,13 @@ stops_unnamed log n p _ h = refl
 pub lasts_after : (configs : List Config) (log : List Entry) (ev : Event) (n : ℕ) → is_stopped log n ≡ false → stops n ev.act ≡ false → is_stopped (log ++ effect configs log ev ∷ []) n ≡ false
 lasts_after configs log ev n lasts none = is_stopped-kept log (effect configs log ev) n (ap (stops n) (effect-act configs log ev) ∙ none) ∙ lasts
 
--- nor after one that does not name its parts
-pub lasts_unnamed : (configs : List Config) (log : List Entry) (ev : Event) (n : ℕ) → is_stopped log n ≡ false → names log ev.act (at tracker n) ≡ false → is_stopped (log ++ effect configs log ev ∷ []) n ≡ false
-lasts_unnamed configs log ev n lasts h = lasts_after configs log ev n lasts (stops_unnamed log n tracker ev.act h)
+-- whether it has stopped stays so after an act that does not stop it
+pub life_after : (configs : List Config) (log : List Entry) (ev : Event) (n : ℕ) (b : Bool) → b ≡ is_stopped log n → stops n ev.act ≡ false → b ≡ is_stopped (log ++ effect configs log ev ∷ []) n
+life_after configs log ev n b life none = life ∙ sym (is_stopped-kept log (effect configs log ev) n (ap (stops n) (effect-act configs log ev) ∙ none))
+
+-- and after one that does not name its parts
+pub life_unnamed : (configs : List Config) (log : List Entry) (ev : Event) (n : ℕ) (b : Bool) → b ≡ is_stopped log n → names log ev.act (at tracker n) ≡ false → b ≡ is_stopped (log ++ effect configs log ev ∷ []) n
+life_unnamed configs log ev n b life h = life_after configs log ev n b life (stops_unnamed log n tracker ev.act h)
 
 -- ---- channels
 
@@ -196,7 +202,7 @@ hears_unnamed configs log ev n h late = by (steps_spawner n ev.act) refl
     by false none = hears_kept log e n idle lives (λ conn. connections_of-unmade log e n (ap (steps_spawner n) (effect-act configs log ev) ∙ none) conn)
 
 -- the router of a node that an act does not name
-pub router_frame : (configs : List Config) (log : List Entry) (ev : Event) (n : ℕ) (r : Router) → RouterStands configs log n r → names log ev.act (at router n) ≡ false → MakesUnbegun log n ev.act
+router_frame : (configs : List Config) (log : List Entry) (ev : Event) (n : ℕ) (r : Router) → RouterStands configs log n r → names log ev.act (at router n) ≡ false → MakesUnbegun log n ev.act
     → RouterStands configs (log ++ effect configs log ev ∷ []) n r
 router_frame configs log ev n r s h late =
     let e = effect configs log ev in
@@ -207,6 +213,27 @@ router_frame configs log ev n r s h late =
     line_of (log ++ e ∷ []) q
     ∙ (line-unnamed configs log ev q (ap (names log ev.act) (router_home n q (subst (λ k. is_routers k q ≡ true) s.number own)) ∙ h) ∙ sym (line_of log q))))
     refl refl
+
+-- whether its node has stopped or not
+pub lives_frame : (configs : List Config) (log : List Entry) (ev : Event) (n : ℕ) (r : Router) → RouterLives configs log n r → names log ev.act (at router n) ≡ false → MakesUnbegun log n ev.act
+    → RouterLives configs (log ++ effect configs log ev ∷ []) n r
+lives_frame configs log ev n r s h late =
+    let e = effect configs log ev in
+    let same : is_stopped log n ≡ is_stopped (log ++ e ∷ []) n = life_after configs log ev n (is_stopped log n) refl (stops_unnamed log n router ev.act h) in
+    let still : RoutesNothing log e n = routed_none log e n ev.act (effect-act configs log ev) h in
+    record {
+      number = s.number;
+      runs = λ lasts. router_frame configs log ev n r (s.runs (same ∙ lasts)) h late;
+      rests = λ over. rests_kept configs log e n r (s.rests (same ∙ over)) (λ c. line-unnamed configs log ev (queue.Peers n c) h) still.routes_stay still.subscribers_stay;
+    }
+
+-- the router of a node that has not stopped after an act
+pub lives_on : (configs : List Config) (log : List Entry) (n : ℕ) (r : Router) → is_stopped log n ≡ false → RouterStands configs log n r → RouterLives configs log n r
+lives_on configs log n r lasts s = record { number = s.number; runs = λ same. s; rests = λ over. absurd (false≢true (sym lasts ∙ over)) }
+
+-- and of one that has
+pub rests_on : (configs : List Config) (log : List Entry) (n : ℕ) (r : Router) → is_stopped log n ≡ true → RouterRests configs log n r → RouterLives configs log n r
+rests_on configs log n r over s = record { number = s.number; runs = λ lasts. absurd (false≢true (sym lasts ∙ over)); rests = λ same. s }
 
 -- ---- the tracker
 
@@ -325,7 +352,7 @@ handshakes_unnamed log e n a acts h = handshakes_of-apart log e n (ap (λ b. are
 
 pub part_frame : (p : Part) (configs : List Config) (log : List Entry) (ev : Event) (n : ℕ) (x : Node) → PartStands p configs log n x → names log ev.act (at p n) ≡ false → MakesUnbegun log n ev.act
     → PartStands p configs (log ++ effect configs log ev ∷ []) n x
-part_frame router configs log ev n x s h late = router_frame configs log ev n x.router s h late
+part_frame router configs log ev n x s h late = lives_frame configs log ev n x.router s h late
 part_frame channels configs log ev n x s h late =
     channels_frame configs log (effect configs log ev) n x.channels s
     (record {

@@ -7,6 +7,7 @@ pub mod Nodes
 pub mod Performing
 pub mod Readying
 pub mod Receivers
+pub mod Requests
 pub mod Routers
 pub mod Starts
 pub mod Touching

@@ -14,12 +14,12 @@ use Rattle.p2p_log.specs.declared.event.Act.{Act}
 use Rattle.p2p_log.specs.declared.event.Act.TheVariants as act
 use Rattle.p2p_log.specs.Lines.{line, placed, ended_item, stands_in}
 use Rattle.p2p_log_rules.specs.declared.row.Row.{Row}
-use Rattle.p2p_log_rules.specs.Attempting.{Attempt, DialRules, dial_rules_at, attempts_of}
+use Rattle.p2p_log_rules.specs.Attempting.{DialRules, dial_rules_at, attempts_of}
 use Rattle.p2p_log_rules.proofs.Connections.{steps_sender, steps_receiver, begins_act, ends_act}
 use Rattle.p2p_log_rules.specs.Tellings.{last_or}
 use Rattle.p2p_log_rules.specs.Told.{asks_list, answer_tells, ask_tells, told}
 use Rattle.p2p_log_rules.proofs.Attempts.{attempt_told}
-use Rattle.p2p_log_rules.proofs.Channels.{is_stopped-kept}
+use Rattle.p2p_log_rules.proofs.Channels.{is_stopped-kept, is_stopped-before}
 use Rattle.p2p_log_rules.proofs.Closing.{is_closed-kept}
 use Rattle.p2p_log_rules.proofs.AttemptTellings.{attempts_of-act, tries, attempts_of-kept, asks_told}
 use Rattle.p2p_log_rules.proofs.Dialing.{dials_of-still}
@@ -28,7 +28,7 @@ use Rattle.p2p_net_gates.proofs.DialerChanges.{dialer_frame}
 use Rattle.p2p_net_gates.proofs.ListenerChanges.{listener_frame}
 use Rattle.p2p_log_rules.specs.Connections.{half_at, is_done, begins, is_end, ends_connection}
 use Rattle.p2p_log_rules.specs.Dropping.{half_end}
-use Rattle.p2p_log_rules.specs.Facts.{stops, turns, registers_at, taken, item_named, with_named}
+use Rattle.p2p_log_rules.specs.Facts.{stops, turns, registers_at, taken, item_named, with_named, is_stopped}
 use Rattle.p2p_log_rules.proofs.Spawning.{connections_of-untaken}
 use Rattle.p2p_log_rules.specs.Effect.{only, row, effect}
 use Rattle.p2p_log_rules.specs.Handshakes.{ends_handshake, handshakes_of, peer_at}
@@ -39,6 +39,9 @@ use Rattle.p2p_net_queues.proofs.Going.{line-kept}
 use Rattle.p2p_net_channels.specs.Stands.{ClosesNone}
 use Rattle.p2p_net_channels.proofs.Changes.{channels_frame}
 use Rattle.p2p_net_router.proofs.Unrouted.{unrouted_untaken}
+use Rattle.p2p_net_router.proofs.Resting.{rests_kept}
+use Rattle.p2p_net_router.specs.Stands.{RoutesNothing}
+use Rattle.p2p_net_router.specs.declared.router.Router.{Router}
 use Rattle.p2p_net_connections.proofs.Changes.{connections_frame}
 use Rattle.p2p_net_links.specs.Stands.{LinksStand}
 use Rattle.p2p_net_links.specs.declared.links.Links.{Links}
@@ -47,7 +50,7 @@ use Rattle.p2p_net_links.proofs.Drops.{DropsNone, is_idle_reply, is_stop, drops_
 use Rattle.p2p_net_gates.proofs.Handshakes.{nothing_tells}
 use Rattle.p2p_net_connections.proofs.SpawnerChanges.{spawner_kept}
 use Rattle.p2p_net_node.specs.Places.{Part, router, channels, connections, tracker, dialer, listener, spawner}
-use Rattle.p2p_net_node.specs.Stands.{PartStands, NodeStands, WorldStands}
+use Rattle.p2p_net_node.specs.Stands.{PartStands, NodeStands, WorldStands, RouterLives}
 use Rattle.p2p_net_node.specs.declared.node.Node.{Node}
 use Rattle.p2p_net_node.proofs.ActKinds.{registers_unless, turns_unless, turns_starts, turns_stops}
 use Rattle.p2p_net_node.proofs.Receivers.{receives_nothing, admits_nothing, SendsNothing, sends_apart, closes_apart}
@@ -58,9 +61,9 @@ use Rattle.p2p_log_rules.specs.Links.{listening_ends_of}
 use Rattle.p2p_log_rules.proofs.Families.{kinds_of, are_apart}
 use Rattle.p2p_log_rules.proofs.Handshakes.{Begins, Ends, Stops, handshakes_now}
 use Rattle.p2p_log_rules.proofs.Links.{listening_kinds, listening_ends_of-apart, listening_ends_of-listened, listening_ends_of-shaken}
-use Rattle.p2p_tracker_calls.specs.declared.gates.Reply.TheVariants as gates
 use Rattle.p2p_log_rules.proofs.Steps.{steps_tracker}
 use Rattle.p2p_log_rules.proofs.Answers.{takes_answer}
+use Rattle.p2p_net_node.proofs.Frames.{rests_on}
 
 -- an event with this act
 abbrev pub asked : ℕ → ℕ → Act → Event
@@ -247,17 +250,33 @@ still_hears : (log : List Entry) (e : Entry) (n : ℕ) (a : Act) (rep : Reply) �
 still_hears log e n a rep is q h =
     hears_kept log e n (λ conn. still_begins log e n conn a rep is h.reply q) (λ conn. still_ends log e n conn a rep is h.reply q) (λ conn. connections_of-untaken log e n (taken-none log e h.takes) conn)
 
+-- the router of a node that has stopped, whatever was asked of it
+pub rests_still : (configs : List Config) (log : List Entry) (e : Entry) (n : ℕ) (r : Router) (rep : Reply) → RouterLives configs log n r → is_stopped log n ≡ true → stops n e.event.act ≡ false → RoutesNothing log e n → IsStill e rep
+    → RouterLives configs (log ++ e ∷ []) n r
+rests_still configs log e n r rep s over none still h =
+    rests_on configs (log ++ e ∷ []) n r (is_stopped-kept log e n none ∙ over)
+    (rests_kept configs log e n r (s.rests over) (λ c. line-still log e rep (queue.Peers n c) h) still.routes_stay still.subscribers_stay)
+
 pub part_still : (p : Part) (configs : List Config) (log : List Entry) (e : Entry) (n : ℕ) (x : Node) (a : Act) (rep : Reply) → PartStands p configs log n x → e.event.act ≡ a → is_quiet a rep ≡ true → IsStill e rep
     → PartStands p configs (log ++ e ∷ []) n x
 part_still router configs log e n x a rep s is q h =
-    RouterStands-idle configs log e n x.router
-    (record {
-      no_step = unrouted_untaken log e n (taken-none log e h.takes);
-      no_channel = ap (registers_at configs n) is ∙ quiet_registers configs n a rep q;
-      no_turn = ap (turns n) is ∙ quiet_turns n a rep q;
-      no_end = λ conn. still_ends log e n conn a rep is h.reply q;
-    })
-    (still_hears log e n a rep is q h) h.takes h.puts h.ends s
+    let still : RoutesNothing log e n = unrouted_untaken log e n (taken-none log e h.takes) in
+    record {
+      number = s.number;
+      runs = λ lasts.
+          RouterStands-idle configs log e n x.router
+          (record {
+            no_step = still;
+            no_channel = ap (registers_at configs n) is ∙ quiet_registers configs n a rep q;
+            no_turn = ap (turns n) is ∙ quiet_turns n a rep q;
+            no_end = λ conn. still_ends log e n conn a rep is h.reply q;
+          })
+          (still_hears log e n a rep is q h) h.takes h.puts h.ends (s.runs (is_stopped-before log e n lasts));
+      rests = λ over.
+          let none : stops n e.event.act ≡ false = ap (stops n) is ∙ turns_stops n a (quiet_turns n a rep q) in
+          let then : RouterLives configs (log ++ e ∷ []) n x.router = rests_still configs log e n x.router rep s (sym (is_stopped-kept log e n none) ∙ over) none still h in
+          then.rests over;
+    }
 part_still channels configs log e n x a rep s is q h =
     channels_frame configs log e n x.channels s
     (record {
@@ -312,7 +331,7 @@ pub still_node : (configs : List Config) (log : List Entry) (e : Entry) (n : ℕ
     → NodeStands configs (log ++ e ∷ []) n x
 still_node configs log e n x a rep s is q h = record {
   own = s.own;
-  lasts = is_stopped-kept log e n (ap (stops n) is ∙ turns_stops n a (quiet_turns n a rep q)) ∙ s.lasts;
+  life = s.life ∙ sym (is_stopped-kept log e n (ap (stops n) is ∙ turns_stops n a (quiet_turns n a rep q)));
   each = λ p. part_still p configs log e n x a rep (s.each p) is q h;
 }
 

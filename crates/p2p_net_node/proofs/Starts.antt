@@ -47,6 +47,7 @@ use Rattle.p2p_net_node.specs.Places as place
 use Rattle.p2p_net_node.specs.Stands.{key_heard, PartStands, NodeStands}
 use Rattle.p2p_net_node.specs.declared.node.Node.{Node}
 use Rattle.p2p_net_node.proofs.Routers.{unheard}
+use Rattle.p2p_net_node.proofs.Frames.{lives_on}
 
 none_there : (b : Bool) (rest : Option ℕ) (k : ℕ) → cond b rest (Some k) ≡ None → b ≡ true × rest ≡ None
 none_there true rest k h = (refl, h)
@@ -106,14 +107,15 @@ nobody_heard n conn = unheard (is_begun [] n conn) (live_connection [] n conn) (
 
 -- a node that was asked for nothing
 pub node_new :
-    (configs : List Config) (n : ℕ) (x : Node) → slice_get configs n ≡ Some x.config → x.retained ≡ x.config.max_peers_per_set * x.config.tracked_peer_sets → x.failed ≡ false → x.config.mailbox_size < 2 ^ 64
+    (configs : List Config) (n : ℕ) (x : Node) → slice_get configs n ≡ Some x.config → x.retained ≡ x.config.max_peers_per_set * x.config.tracked_peer_sets → x.stopped ≡ false → x.failed ≡ false → x.config.mailbox_size < 2 ^ 64
     → x.router.number ≡ n → StandsFor configs [] x.router → ((c : ℕ) → tree.get nat_cmp x.router.peers c ≡ None) → x.channels ≡ no_channels → x.connections ≡ no_connections x.config.ping_frequency → IsNew x.config x.tracker → x.dialing ≡ no_dialing → IsNewListening (gates_of x.config) x.listening → x.spawning ≡ no_spawning x.config.mailbox_size
     → NodeStands configs [] n x
-node_new configs n x config retained works small number stands none ch cs tr di li sp = record {
+node_new configs n x config retained runs works small number stands none ch cs tr di li sp = record {
   own = record { config = config; retained = retained; works = works };
-  lasts = is_stopped-none n;
+  life = runs ∙ sym (is_stopped-none n);
   each = λ p. elim p as (λ q. PartStands q configs [] n x) [
     | place.router ↦
+        lives_on configs [] n x.router (is_stopped-none n)
         (record {
           number = number;
           stands = stands;

@@ -1,5 +1,8 @@
 -- When a node may be asked for an act, by what it is.
-use Rattle.std.specs.Prelude.{◌≡◌, ℕ, ◌+◌, ◌*◌, ◌^◌, ◌<◌, ◌≤◌, Bool, true, false, ◌&&◌, ◌==◌, not, nat_lt, nat_le, List, length, Option, Some, None, IsTrue, IfSome, is_some, slice_get}
+use Rattle.std.specs.Prelude.{◌≡◌, ℕ, ◌+◌, ◌^◌, ◌<◌, ◌≤◌, Bool, true, false, ◌&&◌, ◌==◌, not, nat_lt, nat_le, List, length, Option, Some, None, IsTrue, IfSome, is_some, slice_get}
+use Rattle.std.specs.List.Sorted.{IsStrictlySortedBy}
+use Rattle.std.specs.Map.{keys_of}
+use Rattle.std.specs.Ordering.{nat_cmp}
 use Rattle.p2p_log.specs.declared.event.Rate.{Rate}
 use Rattle.p2p_log.specs.declared.entry.Entry.{Entry}
 use Rattle.p2p_log.specs.declared.event.Event.{Event}
@@ -7,7 +10,6 @@ use Rattle.p2p_log.specs.declared.event.Act.{Act}
 use Rattle.p2p_log.specs.declared.event.Act.TheVariants as act
 use Rattle.p2p_log_rules.specs.Valid.{fits_usize, is_quota, checked_by, set_asked_by, subscribed_by}
 use Rattle.p2p_router.specs.Messenger.{is_unbound, is_bound}
-use Rattle.p2p_net_channels.specs.Channels.{capacity_at}
 use Rattle.p2p_net_queues.specs.Tables as table
 use Rattle.p2p_log_rules.specs.Tracking.{key_cmp}
 use Rattle.p2p_tracker_mailbox.specs.Desk.{next_message}
@@ -16,20 +18,19 @@ use Rattle.p2p_net_links.specs.declared.links.Links.{Links}
 use Rattle.p2p_net_node.specs.Meetings.{meeting_of, MeetsThere}
 use Rattle.p2p_net_node.specs.Places.{node_of, other_of}
 use Rattle.p2p_net_node.specs.declared.meeting.Meeting.{Meeting}
+use Rattle.p2p_net_node.specs.Requested.{capacity_by}
 use Rattle.p2p_net_node.specs.declared.node.Node.{Node}
+use Rattle.p2p_net_node.specs.declared.requested.Requested.{Requested}
 
 -- whether a node has started
 abbrev pub is_started : Node → Bool
 is_started x = is_bound x.router.messenger.binding
 
--- how many messages a channel of this rate holds at a node
-abbrev pub capacity_by : Node → Rate → ℕ
-capacity_by x rate = x.retained * rate.burst
-
-abbrev pub may_register : Node → ℕ → Rate → Bool
-may_register x c rate =
-    ((not (is_started x) && not (is_some (capacity_at x.channels c))) && is_quota rate)
-    && (fits_usize (capacity_by x rate) && fits_usize (x.config.mailbox_size + (x.channels.total + capacity_by x rate)))
+-- whether a channel may be registered, by what was requested so far
+abbrev pub may_register : Node → Requested → ℕ → Rate → Bool
+may_register x r c rate =
+    ((not r.started && not (is_some (table.at r.capacities c))) && is_quota rate)
+    && (fits_usize (capacity_by x rate) && fits_usize (x.config.mailbox_size + (r.total + capacity_by x rate)))
 
 abbrev pub is_spawn_of : ℕ → Act → Bool
 is_spawn_of n a = elim a [ act.Spawner m ↦ m == n | _ ↦ false ]
@@ -78,50 +79,51 @@ abbrev pub subscribes : Option Entry → Bool
 subscribes None = false
 subscribes (Some e) = is_some (subscribed_by e.event.act)
 
--- whether a node may be asked, after these entries
-abbrev pub may_ask : List Entry → Node → Act → Bool
-may_ask log x (act.Register c n rate) = may_register x c rate
-may_ask log x (act.Start n) = not (is_started x)
-may_ask log x (act.Stop by_start n) = false
-may_ask log x (act.SendChecked bytes check priority) = checks (slice_get log check)
-may_ask log x (act.SendStep conn n) = names_spawner n (slice_get log conn)
-may_ask log x (act.RecvStep conn n) = names_spawner n (slice_get log conn)
-may_ask log x (act.Answer e) = asks_set (slice_get log e)
-may_ask log x (act.Next e) = subscribes (slice_get log e)
-may_ask log x (act.Handshake e n) = names_listener n (slice_get log e)
-may_ask log x (act.Attempt e n) = names_dialer n (slice_get log e)
-may_ask log x (act.Resolve addresses e n) = names_dialer n (slice_get log e)
-may_ask log x (act.Connect e from n to) = names_dialer n (slice_get log e)
-may_ask log x (act.Refuse e n) = names_dialer n (slice_get log e)
-may_ask log x (act.Finish link ok) = links_attempt (slice_get log link)
-may_ask log x (act.Cut link) = links_attempt (slice_get log link)
-may_ask log x _ = true
+-- whether a node may be asked, after these entries and by what was requested of it so far
+abbrev pub may_ask : List Entry → Node → Requested → Act → Bool
+may_ask log x r (act.Register c n rate) = may_register x r c rate
+may_ask log x r (act.Start n) = not r.started
+may_ask log x r (act.Stop by_start n) = not (by_start && r.started)
+may_ask log x r (act.SendChecked bytes check priority) = checks (slice_get log check)
+may_ask log x r (act.SendStep conn n) = names_spawner n (slice_get log conn)
+may_ask log x r (act.RecvStep conn n) = names_spawner n (slice_get log conn)
+may_ask log x r (act.Answer e) = asks_set (slice_get log e)
+may_ask log x r (act.Next e) = subscribes (slice_get log e)
+may_ask log x r (act.Handshake e n) = names_listener n (slice_get log e)
+may_ask log x r (act.Attempt e n) = names_dialer n (slice_get log e)
+may_ask log x r (act.Resolve addresses e n) = names_dialer n (slice_get log e)
+may_ask log x r (act.Connect e from n to) = names_dialer n (slice_get log e)
+may_ask log x r (act.Refuse e n) = names_dialer n (slice_get log e)
+may_ask log x r (act.Finish link ok) = links_attempt (slice_get log link)
+may_ask log x r (act.Cut link) = links_attempt (slice_get log link)
+may_ask log x r _ = true
 
--- the sizes of a node, where it is asked for an act, that its tracker may take what waits for it, and that a handshake holds a place
+-- the sizes of a node, where it is asked for an act, that its tracker may take what waits for it, and that its handshakes hold places
 abbrev pub IsReady : Act → Node → Type 0
-IsReady (act.Register c n rate) x = (x.channels.total + capacity_by x rate < 2 ^ 64) × (is_quota rate ≡ true)
+IsReady (act.Register c n rate) x = (x.stopped ≡ false → x.channels.total + capacity_by x rate < 2 ^ 64) × (is_quota rate ≡ true)
 IsReady (act.Start n) x =
-    IsTrue (is_unbound x.router.messenger.binding)
+    (x.stopped ≡ false → IsTrue (is_unbound x.router.messenger.binding))
     × ((1 ≤ x.config.mailbox_size)
     × ((x.config.mailbox_size + x.channels.total < 2 ^ 64)
     × ((is_quota x.config.allowed_handshake_rate_per_ip ≡ true) × (is_quota x.config.allowed_handshake_rate_per_subnet ≡ true))))
+IsReady (act.Stop by_start n) x = IsStrictlySortedBy nat_cmp (keys_of x.listening.handshakes) → length x.listening.handshakes ≤ x.listening.actor.places.held
 IsReady (act.SendStep conn n) x = 1 ≤ x.config.mailbox_size
-IsReady (act.Tracker n) x = (now : ℕ) → IfSome (next_message x.tracker.mailbox.desk) (λ m. MayTake key_cmp x.tracker.actor.directory m now)
+IsReady (act.Tracker n) x = is_started x ≡ true → (now : ℕ) → IfSome (next_message x.tracker.mailbox.desk) (λ m. MayTake key_cmp x.tracker.actor.directory m now)
 IsReady (act.Handshake e n) x = is_some (table.at x.listening.handshakes e) ≡ true → 0 < x.listening.actor.places.held
 IsReady _ x = Unit {0}
 
-abbrev pub may_at : Option Node → List Entry → Act → Bool
-may_at None log a = false
-may_at (Some x) log a = may_ask log x a
+abbrev pub may_at : Option Node → Option Requested → List Entry → Act → Bool
+may_at (Some x) (Some r) log a = may_ask log x r a
+may_at _ _ log a = false
 
 -- whether an act names nodes that are there, and its node may be asked
-abbrev pub may_act : List Node → List Entry → Act → Bool
-may_act nodes log a =
-    nat_lt (node_of log a) (length nodes) && (nat_lt (other_of log (node_of log a) a) (length nodes) && may_at (slice_get nodes (node_of log a)) log a)
+abbrev pub may_act : List Node → List Requested → List Entry → Act → Bool
+may_act nodes rs log a =
+    nat_lt (node_of log a) (length nodes) && (nat_lt (other_of log (node_of log a) a) (length nodes) && may_at (slice_get nodes (node_of log a)) (slice_get rs (node_of log a)) log a)
 
 -- whether an event may be asked for, after these entries and this last moment
-abbrev pub may_apply : List Node → List Entry → ℕ → Event → Bool
-may_apply nodes log last v = nat_le last v.at && may_act nodes log v.act
+abbrev pub may_apply : List Node → List Requested → List Entry → ℕ → Event → Bool
+may_apply nodes rs log last v = nat_le last v.at && may_act nodes rs log v.act
 
 -- an act that names the node n first finds its nodes there, and ready
 pub record MayPerform (nodes : List Node) (l : Links) (n : ℕ) (a : Act) : Type 0 where

@@ -24,6 +24,7 @@ use Rattle.p2p_net_router.specs.Ends.{IsIdle}
 use Rattle.p2p_net_router.specs.Holds.{Holds, Adds, IsStranger, after}
 use Rattle.p2p_net_router.specs.Names.{is_routers}
 use Rattle.p2p_net_router.specs.Peers.{names_taken}
+use Rattle.p2p_net_router.specs.Resting.{IsListing}
 use Rattle.p2p_net_router.specs.Stands.{StandsFor, StandsOver, IsBeside, IsRegistration, IsReadied, IsEnding, AreAway}
 use Rattle.p2p_net_router.specs.Telling.{accepted_reply, refused_reply}
 use Rattle.p2p_net_router.specs.declared.router.Router.{Router}
@@ -56,6 +57,9 @@ pub record TakesList (c : ℕ) (old new : Router) (o : Option (ℕ × ℕ)) : Ty
       → names_taken o ≡ map name_of (take 1 (filter (stands_in (queue.Peers old.number c)) items))
   pub stands : (configs : List Config) (log : List Entry) (items : List Envelope) → StandsOver configs log old items → AreApart items
       → StandsOver configs log new (filter (stays (names_taken o)) items)
+  -- and so it is where its node has stopped
+  pub named : (items : List Envelope) → IsListing old items → names_taken o ≡ map name_of (take 1 (filter (stands_in (queue.Peers old.number c)) items))
+  pub listing : (items : List Envelope) → IsListing old items → AreApart items → IsListing new (filter (stays (names_taken o)) items)
   pub rest : new ≡ record old { messenger = record old.messenger { lists = new.messenger.lists }; names = new.names }
 
 -- a message for these keys is handed to it

@@ -10,6 +10,7 @@ use Rattle.p2p_log_rules.specs.Connections.{is_begun, live_connection}
 use Rattle.p2p_log_rules.specs.Facts.{is_stopped}
 use Rattle.p2p_log_rules.specs.Spawning.{Spawned}
 use Rattle.p2p_log_rules.specs.Valid.{config_fault}
+use Rattle.p2p_net_router.specs.Resting.{RouterRests}
 use Rattle.p2p_net_router.specs.Stands.{StandsFor}
 use Rattle.p2p_net_router.specs.declared.router.Router.{Router}
 use Rattle.p2p_net_channels.specs.Stands.{ChannelsStand}
@@ -38,9 +39,15 @@ pub record RouterStands (configs : List Config) (log : List Entry) (n : ℕ) (r 
   pub stands : StandsFor configs log r
   pub hears : HearsOfBegun log n r.peers
 
+-- the same by its life: once it has stopped, only its lists of peers stand for the log
+pub record RouterLives (configs : List Config) (log : List Entry) (n : ℕ) (r : Router) : Type 0 where
+  pub number : r.number ≡ n
+  pub runs : is_stopped log n ≡ false → RouterStands configs log n r
+  pub rests : is_stopped log n ≡ true → RouterRests configs log n r
+
 -- a part of a node, against the log
 abbrev pub PartStands : Part → List Config → List Entry → ℕ → Node → Type 0
-PartStands router configs log n x = RouterStands configs log n x.router
+PartStands router configs log n x = RouterLives configs log n x.router
 PartStands channels configs log n x = ChannelsStand configs log n x.channels
 PartStands connections configs log n x = ConnectionsStand configs log n x.connections
 PartStands tracker configs log n x = TrackerStands configs log n x.tracker
@@ -54,10 +61,10 @@ pub record OwnStands (configs : List Config) (n : ℕ) (x : Node) : Type 0 where
   pub retained : x.retained ≡ x.config.max_peers_per_set * x.config.tracked_peer_sets
   pub works : x.failed ≡ false
 
--- a node has not stopped, and each part of it stands for the log
+-- a node knows whether it has stopped, and each part of it stands for the log
 pub record NodeStands (configs : List Config) (log : List Entry) (n : ℕ) (x : Node) : Type 0 where
   pub own : OwnStands configs n x
-  pub lasts : is_stopped log n ≡ false
+  pub life : x.stopped ≡ is_stopped log n
   pub each : (p : Part) → PartStands p configs log n x
 
 -- each node of valid configurations stands for the log, and so do the links: every queue holds its line

@@ -41,6 +41,8 @@ pub struct Node {
     pub listening: Listening,
     /// The connections that its spawner is to make.
     pub spawning: Spawning,
+    /// Whether it has stopped.
+    pub stopped: bool,
     /// Whether it found no memory.
     pub failed: bool,
 }
@@ -57,6 +59,7 @@ impl Drop for Node {
             dialing: _dialing,
             listening: _listening,
             spawning: _spawning,
+            stopped: _stopped,
             failed: _failed,
         } = self;
     }
@@ -80,6 +83,7 @@ impl Node {
         ensures dialing { IfOk result (λ x. x.dialing ≡ no_dialing) }
         ensures listening { IfOk result (λ x. IsNewListening (gates_of config) x.listening) }
         ensures spawning { IfOk result (λ x. x.spawning ≡ no_spawning config.mailbox_size) }
+        ensures runs { IfOk result (λ x. x.stopped ≡ false) }
         ensures works { IfOk result (λ x. x.failed ≡ false) }
     {
         let size = config.mailbox_size;
@@ -97,11 +101,12 @@ impl Node {
             dialing: Dialing::new(alloc),
             listening,
             spawning,
+            stopped: false,
             failed: false,
         })
     }
 
-    /// Whether it has started.
+    /// Whether it has started, and has not stopped.
     pub fn is_started(&self) -> bool
         ensures { result ≡ started_test self.now }
     {

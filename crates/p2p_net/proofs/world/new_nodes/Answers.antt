@@ -24,7 +24,7 @@ loop-number-preserved c =
     let new = c.in_ok-new.field-0 in
     let there = slice_get-get_or configs n absent c.loop-number-test.true ∙ ap Some (sym c.in_ok-new.ensures.config) in
     let stands : NodeStands configs [] n new =
-    node_new configs n new there (c.in_ok-new.ensures.retained ∙ ap (λ (z : Config). z.max_peers_per_set * z.tracked_peer_sets) (sym c.in_ok-new.ensures.config)) c.in_ok-new.ensures.works
+    node_new configs n new there (c.in_ok-new.ensures.retained ∙ ap (λ (z : Config). z.max_peers_per_set * z.tracked_peer_sets) (sym c.in_ok-new.ensures.config)) c.in_ok-new.ensures.runs c.in_ok-new.ensures.works
     (subst (λ (z : Config). z.mailbox_size < 2 ^ 64) (sym c.in_ok-new.ensures.config) c.in_ok-new.ensures.counted) c.in_ok-new.ensures.number (c.in_ok-new.ensures.router configs) c.in_ok-new.ensures.peers
     c.in_ok-new.ensures.channels
     (subst (λ (z : Config). new.connections ≡ no_connections z.ping_frequency) (sym c.in_ok-new.ensures.config) c.in_ok-new.ensures.connections) (subst (λ (z : Config). IsNew z new.tracker) (sym c.in_ok-new.ensures.config) c.in_ok-new.ensures.tracker) c.in_ok-new.ensures.dialing
