@@ -1,5 +1,5 @@
 -- The form of each act: beside the names that every event has, an event has exactly the names of its act.
-use Rattle.std.specs.Prelude.{ℕ, true, List, [], ◌∷◌, codes, bytes_eq, Option, Some, if◌then◌else◌}
+use Rattle.std.specs.Prelude.{ℕ, true, false, List, [], ◌∷◌, codes, bytes_eq, Option, Some, if◌then◌else◌}
 use Rattle.serde_json.specs.Data.{Data}
 use Rattle.serde_json.specs.Find.{as_str, as_bool}
 use Rattle.p2p_log.specs.declared.event.Act.{Act}
@@ -16,14 +16,18 @@ register_of d = do
   quota ← field "quota" rate_of d
   Some (act.Register channel node quota)
 
--- a start binds where it does not say whether; one that does not stops its node, which is not built yet
+-- a start binds where it does not say whether; one that does not stops its node
 abbrev pub start_of : Data → Option Act
 start_of d = do
   has ("bind" ∷ "node" ∷ []) d
   binds ← absent_or true "bind" as_bool d
-  binds
   node ← field "node" whole d
-  Some (act.Start node)
+  if binds then Some (act.Start node) else Some (act.Stop true node)
+
+abbrev pub stop_of : Data → Option Act
+stop_of d = do
+  node ← node_of d
+  Some (act.Stop false node)
 
 abbrev pub send_of : Data → Option Act
 send_of d = do
@@ -97,6 +101,7 @@ abbrev pub act_named : List ℕ → Data → Option Act
 act_named word d =
     if bytes_eq word (codes "register") then register_of d
     else if bytes_eq word (codes "start") then start_of d
+    else if bytes_eq word (codes "stop") then stop_of d
     else if bytes_eq word (codes "router") then router_of d
     else if bytes_eq word (codes "send_step") then send_step_of d
     else if bytes_eq word (codes "recv_step") then recv_step_of d

@@ -2,7 +2,7 @@
 ghost use Rattle.std.specs.Prelude.{◌≡◌};
 ghost use Rattle.serde_json.specs.View.{view};
 ghost use Rattle.p2p_sim_script.specs.Gives.{Gives};
-ghost use Rattle.p2p_sim_script.specs.ActForm.{act_named, act_of, check_of, close_of, recv_of, recv_step_of, register_of, router_of, send_checked_of, send_of, send_step_of, sending_act_named, start_of};
+ghost use Rattle.p2p_sim_script.specs.ActForm.{act_named, act_of, check_of, close_of, recv_of, recv_step_of, register_of, router_of, send_checked_of, send_of, send_step_of, sending_act_named, start_of, stop_of};
 
 use crate::error::ScriptError;
 use crate::parts::{read_node, read_rate};
@@ -34,11 +34,26 @@ fn read_start(tree: &Value) -> Option<Act>
     if !only(tree, &["at", "seed", "do", "bind", "node"]) {
         return None;
     }
-    if !flag_or(tree, "bind", true)? {
-        return None;
-    }
+    let binds = flag_or(tree, "bind", true)?;
     let node = whole(tree, "node")?;
-    Some(Act::Start { node })
+    if binds {
+        Some(Act::Start { node })
+    } else {
+        Some(Act::Stop {
+            by_start: true,
+            node,
+        })
+    }
+}
+
+fn read_stop(tree: &Value) -> Option<Act>
+    ensures { result ≡ stop_of (view tree.now) }
+{
+    let node = read_node(tree)?;
+    Some(Act::Stop {
+        by_start: false,
+        node,
+    })
 }
 
 fn read_router(tree: &Value) -> Option<Act>
@@ -155,6 +170,7 @@ fn read_named(alloc: Global, word: &str, tree: &Value) -> Result<Act, ScriptErro
     let act = match word {
         "register" => read_register(tree),
         "start" => read_start(tree),
+        "stop" => read_stop(tree),
         "router" => read_router(tree),
         "send_step" => read_send_step(tree),
         "recv_step" => read_recv_step(tree),
