@@ -3,7 +3,7 @@ import svg
 from journey import node_of
 from moments import duration_text
 from picture_row import Row
-from picture_words import CONTROL, DROPPED, REFUSED, event_text, item_label, refuses, reply_text, short
+from picture_words import CONTROL, DROPPED, REFUSED, end_text, event_text, item_label, refuses, reply_text, short
 from picture_ways import Ways
 from places import all_nodes, cuts_of, keys_of_nodes, link_ends, link_writers, links_of, nodes_at
 from set_up import connections_made
@@ -93,16 +93,16 @@ class Chart:
             row.tell((self.axis + 10, WORDS), words, colour)
 
     def row_of(self, entry):
-        """An entry by its words, a dot at each node where it acts, what it put, and a cross where a connection ends."""
+        """An entry by its words, a dot at each node where it acts, what it put, and a cross where a connection or a node ends."""
         event, refused = self.event_at(entry.number), refuses(entry.reply)
         row = Row(entry.number, entry.line, event.get('at'))
         words = '%d  %s%s' % (entry.number, event_text(event), reply_text(entry.reply))
         row.words = svg.text(self.axis + 10, 4, short(words, MOST_OF_A_ROW), 'row', colour=REFUSED if refused else None)
-        ended = isinstance(entry.reply, dict) and 'ended' in entry.reply
+        ended = end_text(event, entry.reply)
         for node in self.nodes_at(entry.number):
             row.add(svg.cross(self.x(node), 0, 5, DROPPED) if ended else svg.dot(self.x(node), 0, 2.2, REFUSED if refused else QUIET))
             if ended:
-                row.label(self.column_at(self.x(node)), 'connection ended: %s' % entry.reply['ended'], DROPPED)
+                row.label(self.column_at(self.x(node)), ended, DROPPED)
         for queue, item in entry.puts:
             node, told = self.node_of_put(entry, queue), item_label(queue, item)
             if told and node in self.places:

@@ -3,6 +3,7 @@ from journey import copies_carried, node_of
 from places import cuts_of, link_ends, link_writers, links_of, nodes_at
 from report_form import is_number
 from set_up import connections_made
+from stopping import stops_node
 
 OF_CONNECTION = ('ready', 'control', 'high', 'low', 'held')
 OF_CHANNEL = ('channel', 'peers')
@@ -52,7 +53,7 @@ class Tagger:
         self.report = report
         self.events = events
         made = connections_made(report, report.entries)
-        self.made = {number for number, *_ in made}
+        self.made = {number: node for number, node, *_ in made}
         self.connections = {(link, node): number for number, node, _, link in made if is_number(link)}
         self.writers, self.readers = link_writers(report), link_ends(report, journeys)
         self.links, self.cuts = links_of(report), dict(cuts_of(report, events))
@@ -72,6 +73,11 @@ class Tagger:
             tags.nodes.add(node)
             tags.connections.add(self.connections.get((link, node)))
 
+    def add_stop(self, tags, entry, event):
+        """The connections of a node that stops, of which some may have ended before."""
+        if stops_node(event) and entry.reply == 'ok':
+            tags.connections.update(number for number, node in self.made.items() if node == event['node'] and number < entry.number)
+
     def tags_of(self, entry):
         tags = Tags()
         tags.nodes.update(nodes_at(self.report, entry))
@@ -79,6 +85,7 @@ class Tagger:
             tags.add_item(queue, item)
         if entry.number < len(self.events):
             tags.add_event(self.events[entry.number])
+            self.add_stop(tags, entry, self.events[entry.number])
         for queue, _ in entry.puts:
             tags.connections.add(self.connection_of(queue, self.writers))
         for name in entry.takes:

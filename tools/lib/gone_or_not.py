@@ -1,8 +1,11 @@
 """Whether an entry may have its reply, by what the run has come to before it."""
+from stopping import after_misfit, stop_misfit, stops_node
 from why_sends import admitted_of, full_router
 from why_words import reply_text
 
 STEPPED = ('router', 'tracker', 'dialer', 'listener', 'spawner')
+CALLS = ('register', 'start', 'stop')
+NOTHING = ('idle', 'pending', 'network_closed')
 QUEUES = {'router': 'router:%(node)d', 'spawner': 'spawner:%(node)d', 'recv': 'channel:%(node)d:%(channel)d',
           'attempt': 'attempt:%(node)d:%(attempt)d', 'handshake': 'handshake:%(node)d:%(handshake)d', 'dialer': 'dialer:%(node)d'}
 
@@ -17,11 +20,15 @@ def is_gone(state, event):
     """Whether the reply to an event is "gone"; None where this is not looked at."""
     act, node = event['do'], event.get('node')
     if act in STEPPED:
-        return node not in state.started
+        return not state.is_up(node)
+    if act in CALLS:
+        return node in state.stopped
     if act in ('send', 'check'):
         return (node, event['channel']) not in state.channels
     if act in ('recv', 'close'):
         return (node, event['channel']) not in state.channels or (node, event['channel']) in state.closed
+    if act == 'answer':
+        return event['question'] in state.answered
     if act == 'send_checked':
         return event['check'] not in state.checks or event['check'] in state.spent
     if act == 'cut':
@@ -59,14 +66,17 @@ def keys_misfit(state, entry, event):
     if event['do'] == 'check':
         told, may_be_none = entry.reply.get('checked', []), False
     else:
-        told, may_be_none = entry.reply.get('sent', admitted), bool(full_router(state, event['node']))
+        told = entry.reply.get('sent', admitted)
+        may_be_none = event['node'] in state.stopped or bool(full_router(state, event['node']))
     if told == admitted or told == [] and may_be_none:
         return None
     return 'the reply is %s, and the quota admits the keys %s' % (reply_text(entry.reply), admitted)
 
 
 def start_misfit(state, entry, event):
-    """Why it does not subscribe to these channels."""
+    """Why it does not subscribe to these channels; or, where it does not bind, why it does not end these items."""
+    if stops_node(event):
+        return stop_misfit(state, entry, event)
     due = [channel for node, channel in state.channels if node == event['node']]
     told = [item['subscribe'] for _, item in entry.puts]
     if told == due:
@@ -88,9 +98,12 @@ def misfit(state, entry, event):
     gone = is_gone(state, event)
     if gone is not None and gone != (entry.reply == 'gone'):
         return 'the reply is %s, and %s due' % (reply_text(entry.reply), '"gone" is' if gone else 'another is')
-    if entry.reply in ('idle', 'pending'):
+    after = after_misfit(state, entry, event)
+    if after:
+        return after
+    if entry.reply in NOTHING:
         return waiting_misfit(state, entry, event)
     if event['do'] in ('send', 'check') and entry.reply != 'gone':
         return keys_misfit(state, entry, event)
-    judge = {'start': start_misfit, 'cut': cut_misfit}.get(event['do'])
+    judge = {'start': start_misfit, 'stop': stop_misfit, 'cut': cut_misfit}.get(event['do'])
     return judge(state, entry, event) if judge and entry.reply != 'gone' else None

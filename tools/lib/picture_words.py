@@ -2,6 +2,7 @@
 import json
 
 from journey import copies_carried, node_of
+from stopping import stops_node
 from why import is_refusal
 from why_words import ip_text
 
@@ -57,8 +58,16 @@ def event_text(event):
     if asked:
         return '%s of event %s: ' % (event['do'], asked[0])
     begun = [event[name] for name in ('attempt', 'handshake') if name in event]
-    act = '%s of event %s' % (event['do'], begun[0]) if begun else event['do']
+    plain = 'start that does not bind' if event.get('bind') is False else event['do']
+    act = '%s of event %s' % (plain, begun[0]) if begun else plain
     return 'node %s %s: ' % (event['node'], act) if 'node' in event else '%s: ' % act
+
+
+def end_text(event, reply):
+    """What ends at an entry, a connection or its node; nothing, where neither does."""
+    if isinstance(reply, dict) and 'ended' in reply:
+        return 'connection ended: %s' % reply['ended']
+    return 'node stopped' if stops_node(event) and reply == 'ok' else None
 
 
 def is_ping(queue, item):

@@ -3,6 +3,7 @@ from actors import Attempt, Connection, Dialer, Handshake, Link
 from limiter import Limiter
 from presets import whole_configuration
 from queue_state import Queues
+from stopping import stops_node, that_run
 from tracker_state import Tracker
 
 
@@ -19,6 +20,7 @@ class RunState:
         self.events = events
         self.queues = Queues()
         self.started = {}
+        self.stopped = {}
         self.channels = {}
         self.closed = {}
         self.peers_told = {}
@@ -85,12 +87,35 @@ class RunState:
             if kind == 'peers':
                 self.peers_told[int(names[0]), int(names[1])] = entry.number, item
 
+    def is_up(self, node):
+        """Whether a node has started, and has not stopped."""
+        return node in self.started and node not in self.stopped
+
     def did_register(self, entry, event, _):
+        if entry.reply == 'gone':
+            return
         self.channels[event['node'], event['channel']] = entry.number, event['quota'], entry.reply['capacity']
 
     def did_start(self, entry, event, _):
-        self.started[event['node']] = entry.number
-        self.dialers[event['node']] = Dialer(event['at'])
+        if stops_node(event):
+            self.did_stop(entry, event, _)
+        elif entry.reply == 'ok':
+            self.started[event['node']] = entry.number
+            self.dialers[event['node']] = Dialer(event['at'])
+
+    def did_stop(self, entry, event, _):
+        """Its attempts, handshakes and connections end, and its ends of links are dropped."""
+        if entry.reply != 'ok':
+            return
+        node = event['node']
+        self.stopped[node] = entry.number
+        for one in [one for actors in (self.attempts, self.handshakes, self.connections) for one in that_run(actors, node)]:
+            one.ended = entry.number
+            one.reason = 'its node stopped'
+        for link in self.links.values():
+            for side, holder in (('out', link.node), ('in', link.to)):
+                if holder == node:
+                    link.dropped.setdefault(side, entry.number)
 
     def did_send(self, entry, event, _):
         if entry.reply != 'gone':
@@ -174,7 +199,7 @@ class RunState:
             tracker.take(item, self.events, event['at'], entry)
 
     def did_answer(self, entry, event, _):
-        if entry.takes:
+        if isinstance(entry.reply, dict):
             self.answered[event['question']] = entry.number
 
     def did_dialer(self, entry, event, items):

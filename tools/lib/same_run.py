@@ -11,11 +11,11 @@ ASKED = ('feedback', 'peer_set_too_large')
 ENDED = (*STEPS, 'ended')
 # The replies that each act may have, each by its word.
 REPLIES = {
-    'register': ('capacity',), 'start': ('ok',), 'send': ('gone', 'sent', 'message_too_large'),
+    'register': ('capacity', 'gone'), 'start': ('ok', 'gone'), 'stop': ('ok', 'gone'), 'send': ('gone', 'sent', 'message_too_large'),
     'check': ('gone', 'checked', 'retry'), 'send_checked': ('gone', 'outcome', 'message_too_large'), 'router': STEPS,
-    'send_step': ENDED, 'recv_step': ENDED, 'recv': ('gone', 'pending', 'message'), 'close': ('ok', 'gone'), 'track': ASKED,
+    'send_step': ENDED, 'recv_step': ENDED, 'recv': ('gone', 'pending', 'message', 'network_closed'), 'close': ('ok', 'gone'), 'track': ASKED,
     'overwrite': ASKED, 'block': ASKED, 'peer_set': ASKED, 'subscribe': ASKED, 'blocked': ASKED,
-    'answer': ('gone', 'pending', 'peer_set'), 'next': ('pending', 'update', 'blocked'), 'tracker': STEPS, 'dialer': STEPS,
+    'answer': ('gone', 'pending', 'peer_set'), 'next': ('pending', 'update', 'blocked', 'stream_ended'), 'tracker': STEPS, 'dialer': STEPS,
     'attempt': STEPS, 'resolve': ('ok', 'gone'), 'connect': ('ok', 'gone', 'pending'), 'refuse': ('ok', 'gone', 'pending'),
     'finish': ('ok', 'gone', 'pending'), 'cut': ('ok', 'gone'),
     'listener': (*STEPS, 'private', 'unregistered', 'limited', 'too_many', 'admitted'), 'handshake': STEPS, 'spawner': STEPS,
@@ -107,7 +107,7 @@ def check_send(report, events, entry, event):
 def check_numbers(configurations, entry, event):
     """The numbers of its reply that its configuration gives."""
     reply = entry.reply
-    if event['do'] == 'register':
+    if event['do'] == 'register' and reply != 'gone':
         said = configurations[event['node']]
         due = said['max_peers_per_set'] * said['tracked_peer_sets'] * event['quota']['burst']
         if reply['capacity'] != due:

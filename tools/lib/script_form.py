@@ -67,6 +67,7 @@ def recipients(field):
 ACT_FORMS = {
     'register': {'channel': whole, 'node': whole, 'quota': a_rate},
     'start': {'node': whole},
+    'stop': {'node': whole},
     'send': {'bytes': some_bytes, 'channel': whole, 'node': whole, 'priority': a_flag, 'to': recipients},
     'check': {'channel': whole, 'node': whole, 'to': recipients},
     'send_checked': {'bytes': some_bytes, 'check': whole, 'priority': a_flag},
@@ -173,8 +174,6 @@ def read_act(number, field, act, at):
     forms, optional_forms = ACT_FORMS[act], OPTIONAL_FORMS.get(act, {})
     an_object(field, ['at', 'seed', 'do', *forms, *optional_forms])
     said = read_names(field, forms, optional_forms)
-    if said.get('bind') is False:
-        raise NotBuilt(field.value.get('bind').at, field.what, 'a start that does not bind is not built yet')
     said['at'] = at
     return Part(number, field, said, act)
 

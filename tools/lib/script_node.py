@@ -23,8 +23,12 @@ class Node:
     def register(self, channel, quota=None):
         return self.does('register', node=self, channel=channel, quota=quota or channel.quota)
 
-    def start(self):
-        return self.does('start', node=self)
+    def start(self, bind=True):
+        """Where it does not bind, it finds no place to listen, and the node stops."""
+        return self.does('start', node=self, **({} if bind else {'bind': False}))
+
+    def stop(self):
+        return self.does('stop', node=self)
 
     def send(self, channel, bytes, to, priority=False):
         return self.does('send', node=self, channel=channel, bytes=some_bytes(bytes), priority=priority, to=recipients(to))

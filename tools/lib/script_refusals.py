@@ -33,6 +33,7 @@ def first_moment(a, b):
 
 def look_at_either(node, peer, again):
     waits = node.waits
+    refuse_where(waits.has_stopped, node, 'has stopped')
     refuse_where(not waits.is_up, node, 'has not started')
     refuse_where(waits.spawns, node, 'may have a peer that waits for its spawner')
     refuse_where(peer in waits.peers and waits.peers[peer] not in waits.ended, node, 'is connected with key %s' % peer.key)

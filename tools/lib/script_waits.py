@@ -36,6 +36,7 @@ class Waits:
         self.sent_on = set()
         self.longest = 0
         self.is_up = False
+        self.has_stopped = False
         self.router = Mailbox()
         self.tracker = Mailbox()
         self.is_changing = False
@@ -125,13 +126,21 @@ class Waits:
         else:
             self.cut.add(link)
 
+    def turned(self, is_on):
+        """The node starts, which it does not once it has stopped; or it stops, and its connections end."""
+        if is_on and not self.has_stopped:
+            self.is_up = True
+            self.router.came += len(self.channels)
+        elif not is_on:
+            self.is_up, self.has_stopped = False, True
+            self.ended.update(self.peers.values())
+
     def acted(self, do, said):
         """What an act of the node leaves."""
         if do == 'register':
             self.channels.add(said['channel'])
-        elif do == 'start':
-            self.is_up = True
-            self.router.came += len(self.channels)
+        elif do in ('start', 'stop'):
+            self.turned(do == 'start' and said.get('bind', True))
         elif do == 'send':
             self.sends(said['channel'], len(said['bytes']) // 2)
         elif do == 'router':

@@ -7,9 +7,10 @@ from why_peers import (why_attempt, why_connect, why_cut, why_dialer, why_finish
 from why_sends import why_checked, why_recv, why_send_checked, why_sent
 from why_steps import why_recv_step, why_router, why_send_step, why_spawner
 from why_tracker import why_answer, why_asked, why_tracker
-from why_words import reply_text
+from why_words import reply_text, why_stopped
 
 JUDGES = {
+    'register': why_stopped, 'start': why_stopped, 'stop': why_stopped,
     'send': why_sent, 'check': why_checked, 'send_checked': why_send_checked, 'recv': why_recv, 'close': why_recv,
     'router': why_router, 'spawner': why_spawner, 'send_step': why_send_step, 'recv_step': why_recv_step,
     'track': why_asked, 'overwrite': why_asked, 'block': why_asked, 'peer_set': why_asked, 'subscribe': why_asked,
@@ -21,9 +22,10 @@ JUDGES = {
 TAKERS = {'router': 'router', 'high': 'send_step', 'low': 'send_step', 'link': 'recv_step', 'held': 'recv_step', 'channel': 'recv'}
 # The acts whose reply `ok` may hide that something was refused, or that sent a message to fewer than it was for.
 LOOKED_AT = frozenset(['send', 'check', 'send_checked', 'tracker', 'attempt', 'handshake', 'finish', 'connect'])
-REFUSALS = frozenset(['gone', 'pending', 'idle', 'private', 'unregistered', 'too_many'])
+REFUSALS = frozenset(['gone', 'pending', 'idle', 'private', 'unregistered', 'too_many', 'network_closed', 'stream_ended'])
 REFUSING = frozenset(['message_too_large', 'peer_set_too_large', 'retry', 'limited', 'ended'])
-FALSE = ({'sent': []}, {'outcome': 'rejected'}, {'feedback': 'backoff'}, {'peer_set': None}, {'checked': []})
+FALSE = ({'sent': []}, {'outcome': 'rejected'}, {'outcome': 'closed'}, {'feedback': 'backoff'}, {'feedback': 'closed'},
+         {'peer_set': None}, {'checked': []})
 
 
 def is_refusal(reply):

@@ -1,4 +1,5 @@
 """Why a copy was dropped, by its cause and what the entry shows."""
+from journey import copies_carried
 from same_run import NOT_FOLLOWING
 from why_words import Cause, count_of
 
@@ -65,6 +66,14 @@ def cut(state, entry, copy):
     return Cause('it was in flight over link %d, which was cut' % state.events[entry.number]['link'])
 
 
+def stopped(state, entry, copy):
+    """It stood at a node that stops here, or was in flight towards it."""
+    ended = [end[1] for end in entry.ends if end[0] == 'item']
+    queue = next(state.queues.home[name] for name in ended if copy in copies_carried(state.item(name)))
+    where = 'was in flight over link %s towards' % queue.split(':')[1] if queue.startswith('link:') else 'stood in %s at' % queue
+    return Cause('it %s node %d, which stops here' % (where, state.events[entry.number]['node']))
+
+
 def refused(state, entry, copy):
     return Cause('connection %d ends here: %s' % (state.events[entry.number]['conn'], entry.reply['ended']), entry.number)
 
@@ -89,4 +98,5 @@ def closed(state, entry, copy):
 CAUSES = {
     'unbound': unbound, 'no_connection': no_route, 'relay_full': relay_full, 'connection_ended': ended, 'link_cut': cut,
     'frame_refused': refused, 'channel_unregistered': refused, 'mailbox_full': full_mailbox, 'receiver_closed': closed,
+    'node_stopped': stopped,
 }

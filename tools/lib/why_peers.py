@@ -1,11 +1,11 @@
 """Why a dialer, an attempt, a listener or a handshake did nothing, was refused or ended without a connection."""
-from why_words import Cause, began_none, count_of, ip_text, not_started
+from why_words import Cause, began_none, count_of, ip_text, not_up, stopped
 
 
 def why_dialer(state, entry, event):
     node = event['node']
     if entry.reply == 'gone':
-        return not_started(state, node)
+        return not_up(state, node)
     dialer, queue = state.dialers[node], 'dialer:%d' % node
     if entry.reply == 'idle' and dialer.asking is not None:
         return Cause('nothing waits in %s: its question of entry %d waits in tracker:%d' % (queue, dialer.asking, node))
@@ -79,7 +79,7 @@ def why_connect(state, entry, event):
     if entry.reply == 'pending':
         return Cause('attempt %d has no address to dial: %s' % (number, lacking(one)))
     if event['do'] == 'connect' and len(entry.puts) == 1:
-        return Cause('the attempt is told that it is refused: node %d has not started' % event['to'])
+        return Cause('the attempt is told that it is refused: %s' % not_up(state, event['to']).text)
     return None
 
 
@@ -93,7 +93,7 @@ def lacking(one):
 def why_listener(state, entry, event):
     node = event['node']
     if entry.reply == 'gone':
-        return not_started(state, node)
+        return not_up(state, node)
     if entry.reply == 'idle':
         return Cause('%s; and none in update:%d' % (state.queues.nothing_waits('arrivals:%d' % node), node))
     if entry.reply in ('ok', 'admitted'):
@@ -185,6 +185,8 @@ def not_exchanged(state, link, said):
                      % (link.to, link.turned_away), link.turned_away)
     if handshake is not None and handshake.ended is not None:
         return Cause(text + 'handshake %d ended at entry %d' % (handshake.number, handshake.ended), handshake.ended)
+    if handshake is None and 'in' in link.dropped:
+        return Cause(text + stopped(state, link.to).text)
     if link.cut is not None:
         return Cause(text + 'event %d cut link %d' % (link.cut, link.number))
     if not said:

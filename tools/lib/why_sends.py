@@ -1,6 +1,6 @@
 """Why a message was sent to fewer than it was for, or to nobody; and what becomes of its copies at the router and after it."""
 from limiter import quota_text
-from why_words import Cause, count_of, listed_keys, not_registered
+from why_words import Cause, count_of, listed_keys, not_registered, stopped
 
 
 def nobody(state, event, channel, node):
@@ -67,6 +67,8 @@ def why_sent(state, entry, event):
         return too_large(state, event, node)
     if not offered:
         return Cause('the message was sent to nobody: %s' % nobody(state, event, channel, node).text)
+    if node in state.stopped:
+        return Cause('the message was sent to nobody: %s' % stopped(state, node).text)
     if entry.reply['sent'] == [] and node in state.started:
         full = full_router(state, node)
         return full and Cause('the message was sent to nobody: %s' % full.text)
@@ -96,6 +98,8 @@ def why_send_checked(state, entry, event):
         return Cause('check %d was spent by event %d' % (check, state.spent[check]))
     if isinstance(entry.reply, dict) and 'message_too_large' in entry.reply:
         return too_large(state, event, node)
+    if entry.reply == {'outcome': 'closed'}:
+        return stopped(state, node)
     if entry.reply == {'outcome': 'rejected'}:
         return full_router(state, node)
     return None if state.checks[check] else Cause('it has no copies: check %d admitted nobody' % check, check)
@@ -109,4 +113,5 @@ def why_recv(state, entry, event):
         if closed is not None:
             return Cause('the reader of channel %d of node %d was dropped by event %d' % (channel, node, closed))
         return not_registered(state, node, channel)
-    return Cause(state.queues.nothing_waits('channel:%d:%d' % (node, channel)))
+    none = state.queues.nothing_waits('channel:%d:%d' % (node, channel))
+    return Cause(none if entry.reply == 'pending' else '%s, and %s' % (none, stopped(state, node).text))

@@ -1,12 +1,12 @@
 """Why a step of a router, a spawner or a half of a connection did nothing, or ended its connection."""
 from limiter import quota_text
-from why_words import Cause, began_none, not_started
+from why_words import Cause, began_none, not_up, stopped
 
 
 def why_router(state, entry, event):
     node = event['node']
     if entry.reply == 'gone':
-        return not_started(state, node)
+        return not_up(state, node)
     return Cause(state.queues.nothing_waits('router:%d' % node))
 
 
@@ -14,7 +14,7 @@ def why_spawner(state, entry, event):
     """A spawner without a message: behind it is an attempt or a handshake of its node that ended before one was put."""
     node, queue = event['node'], 'spawner:%d' % event['node']
     if entry.reply == 'gone':
-        return not_started(state, node)
+        return not_up(state, node)
     ended = [one.ended for one in [*state.attempts.values(), *state.handshakes.values()]
              if one.node == node and one.ended is not None and one.ended > state.queues.put_last.get(queue, -1)]
     return Cause(state.queues.nothing_waits(queue), max(ended, default=None))
@@ -23,8 +23,8 @@ def why_spawner(state, entry, event):
 def no_connection(state, event):
     """Why there is no connection, or none any more."""
     conn, node = event['conn'], event['node']
-    if node not in state.started:
-        return not_started(state, node)
+    if not state.is_up(node):
+        return not_up(state, node)
     if conn not in state.connections:
         return began_none(state, conn, 'made no connection')
     one = state.connections[conn]
@@ -82,7 +82,7 @@ def why_ended(state, entry, one):
     if reason == 'killed':
         return why_killed(state, entry.takes[0][0])
     if reason in ('send_failed', 'receive_failed'):
-        return why_broken(state.links[one.link], 'in' if one.side == 'out' else 'out')
+        return why_broken(state, state.links[one.link], 'in' if one.side == 'out' else 'out')
     copy = state.item(entry.takes[0])['copy']
     if reason == 'invalid_channel':
         return Cause('copy [%d,%d] came on channel %d, which is not registered at node %d'
@@ -93,10 +93,13 @@ def why_ended(state, entry, one):
                  % (*copy, len(sent) // 2, one.node, most)) if copy else None
 
 
-def why_broken(link, other):
-    """What broke a link first: the drop of its other end, or a cut."""
+def why_broken(state, link, other):
+    """What broke a link first: the drop of its other end, which the stop of its node may have been, or a cut."""
     dropped = link.dropped.get(other)
     if dropped is not None and (link.cut is None or dropped < link.cut):
+        if dropped in state.stopped.values():
+            node = link.to if other == 'in' else link.node
+            return Cause('the other end of link %d was dropped: %s' % (link.number, stopped(state, node).text))
         return Cause('the other end of link %d was dropped at entry %d' % (link.number, dropped), dropped)
     return None if link.cut is None else Cause('event %d cut link %d' % (link.cut, link.number))
 

@@ -1,6 +1,6 @@
 """Why a tracker refused what it was asked, or has no answer."""
 from tracker_state import ip_of
-from why_words import Cause, count_of, ip_text, not_started
+from why_words import Cause, count_of, ip_text, not_up, stopped
 
 
 def why_asked(state, entry, event):
@@ -9,6 +9,8 @@ def why_asked(state, entry, event):
     if 'peer_set_too_large' in entry.reply:
         return Cause('the set has %d keys, with the own key of node %d, and max_peers_per_set is %d'
                      % (entry.reply['peer_set_too_large'][0], node, state.configurations[node]['max_peers_per_set']))
+    if entry.reply == {'feedback': 'closed'}:
+        return stopped(state, node)
     count = state.queues.count('tracker:%d' % node)
     return Cause('tracker:%d holds %s already; it is kept all the same' % (node, count_of(count, 'message')))
 
@@ -17,7 +19,7 @@ def why_tracker(state, entry, event):
     """A step without a message, or one that refuses what the message asks."""
     node = event['node']
     if entry.reply == 'gone':
-        return not_started(state, node)
+        return not_up(state, node)
     if entry.reply == 'idle':
         return Cause(state.queues.nothing_waits('tracker:%d' % node))
     item = state.item(entry.takes[0]) if entry.takes else {}
@@ -159,6 +161,8 @@ def why_answer(state, entry, event):
     node, asked = state.events[question]['node'], state.events[question]
     if entry.reply == 'gone':
         return Cause('the answer was taken by event %d' % state.answered[question])
+    if node in state.stopped and not entry.takes:
+        return Cause('nothing comes any more of event %d: %s' % (question, stopped(state, node).text))
     if entry.reply == {'peer_set': None}:
         return why_no_set(state, node, asked, entry)
     if question not in state.taken_calls:

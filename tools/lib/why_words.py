@@ -40,9 +40,23 @@ def ip_text(numbers):
     return ':'.join('%x' % (high << 8 | low) for high, low in zip(numbers[::2], numbers[1::2]))
 
 
-def not_started(state, node):
-    """That a node has not started, where that is so."""
-    return None if node in state.started else Cause('node %d has not started' % node)
+def stopped(state, node):
+    """That a node was stopped, and by which event, where that is so."""
+    if node not in state.stopped:
+        return None
+    number = state.stopped[node]
+    how = ', a start that does not bind' if state.events[number]['do'] == 'start' else ''
+    return Cause('node %d was stopped by event %d%s' % (node, number, how))
+
+
+def why_stopped(state, entry, event):
+    """A `register`, a `start` or a `stop` of a node that was stopped before."""
+    return stopped(state, event['node']) if entry.reply == 'gone' else None
+
+
+def not_up(state, node):
+    """That a node was stopped, or has not started, where that is so."""
+    return stopped(state, node) or (None if node in state.started else Cause('node %d has not started' % node))
 
 
 def not_registered(state, node, channel):

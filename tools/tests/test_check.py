@@ -179,7 +179,7 @@ class Check(unittest.TestCase):
             self.assertEqual(refusal_now(judge(data)[1]), due)
         for node, due in ((0, None), (2, b'{"error":"event","event":1}\n')):
             self.assertEqual(refusal_now(judged([send('all'), {'do': 'start', 'node': node}])), due)
-        self.assertEqual(refusal_now(judged([{'do': 'stop', 'node': 0}])), b'{"error":"script"}\n')
+        self.assertEqual(refusal_now(judged([{'do': 'fault', 'after': 0, 'link': 0, 'side': 'dial'}])), b'{"error":"script"}\n')
 
     def test_the_status_of_the_tool_tells_whether_the_program_runs_it(self):
         good = run_tool('check', os.path.join(TOP, 'examples', 'hello.json'))

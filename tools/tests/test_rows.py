@@ -59,11 +59,12 @@ REPLIES = {
     'ok', 'gone', 'idle', 'pending', 'capacity', 'sent', 'checked', 'retry', 'outcome: ok', 'outcome: rejected',
     'message_too_large', 'message', 'feedback: ok', 'feedback: backoff', 'peer_set_too_large', 'peer_set', 'peer_set: null',
     'update', 'blocked', 'ended: killed', 'ended: send_failed', 'ended: receive_failed', 'ended: decode_failed',
-    'ended: invalid_channel', 'private', 'unregistered', 'limited', 'too_many', 'admitted',
+    'ended: invalid_channel', 'private', 'unregistered', 'limited', 'too_many', 'admitted', 'feedback: closed', 'outcome: closed',
+    'network_closed', 'stream_ended',
 }
 HOWS = {
     'delivered', 'unbound', 'no_connection', 'relay_full', 'connection_ended', 'frame_refused', 'channel_unregistered',
-    'mailbox_full', 'receiver_closed', 'link_cut',
+    'mailbox_full', 'receiver_closed', 'link_cut', 'node_stopped',
 }
 
 

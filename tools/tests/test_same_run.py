@@ -36,6 +36,11 @@ OTHERS = [
     ('script 40 = {"at":0,"do":"recv_step","node":1,"conn":25}', 40, 'a recv_step has no reply {"message":'),
     ('script 41 = {"at":0,"do":"router","node":0}', 41, 'the script has 42 events, and the report has 41 entries'),
     ('script 40 out', 40, 'the script has 40 events, and the report has 41 entries'),
+    ('script 2 bind = false', 2, 'it puts something into router:0, and what stops a node puts nothing'),
+    ('script 3 = {"at":0,"do":"stop","node":1}', 3, 'a stop puts nothing into router:1'),
+    ('script 34 = {"at":0,"do":"stop","node":0}', 34, 'it ends [], and with node 0 ends [item [26,0], item [6,0]]'),
+    ('script 32 = {"at":0,"do":"stop","node":0}', 32, 'it ends [], and with node 0 ends [item [26,0], item [6,0], item [29,0]]'),
+    ('script 40 = {"at":0,"do":"stop","node":1}', 40, 'a stop has no reply {"message":'),
     ('script 0 = {"at":0,"do":"spawner","node":0}', 0, 'a spawner has no reply {"capacity":8}'),
 ]
 

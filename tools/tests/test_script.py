@@ -56,6 +56,7 @@ def some_of_each_act():
     cat.refuse(attempt)
     script.cut(link_of(to_bob))
     ann.track(5, [bob], secondary=[(9, address(egress='10.0.0.9:3000', ingress=name('nine.example')))])
+    cat.stop()
     return script
 
 
@@ -126,6 +127,16 @@ class Words(unittest.TestCase):
             self.assertTrue(hasattr(Node, act) or hasattr(Script, act), act)
             names = set(event) - {'at', 'do', 'seed'} - set(OPTIONAL_FORMS.get(act, {}))
             self.assertEqual(names, set(ACT_FORMS[act]), act)
+        self.assertEqual(judge(script.text().encode())[1].status, 0)
+
+    def test_a_start_says_that_it_does_not_bind_and_else_nothing_of_it(self):
+        script = Script(**LIMITS)
+        ann, bob = script.node(key=1), script.node(key=2)
+        ann.start(bind=False)
+        bob.start(bind=True)
+        bob.stop()
+        self.assertEqual(said_of(script), [
+            {'at': 0, 'do': 'start', 'node': 0, 'bind': False}, {'at': 0, 'do': 'start', 'node': 1}, {'at': 0, 'do': 'stop', 'node': 1}])
         self.assertEqual(judge(script.text().encode())[1].status, 0)
 
     def test_a_plain_event_is_what_it_says(self):
@@ -298,6 +309,23 @@ class Ways(unittest.TestCase):
         bob.recv_step(to_ann)
         self.refused('say again=True', ann, bob)
         connect(ann, bob, again=True)
+
+    def test_no_way_leads_to_a_node_that_stopped(self):
+        script, (ann, bob, cat) = running()
+        to_bob, _ = connect(ann, bob)
+        bob.stop()
+        self.refused('node 1, of key 2, has stopped', cat, bob)
+        ann.recv_step(to_bob)
+        self.refused('node 1, of key 2, has stopped', ann, bob, again=True)
+        script.wait(seconds=1)
+        connect(cat, ann)
+        dan = script.node(key=4)
+        dan.stop()
+        dan.start()
+        self.refused('node 3, of key 4, has stopped', cat, dan)
+        eve = script.node(key=5)
+        eve.start(bind=False)
+        self.refused('node 4, of key 5, has stopped', eve, cat)
 
     def test_what_no_way_made_has_no_link_that_is_known(self):
         _, (ann, _, _) = running()
