@@ -16,9 +16,9 @@ use std::alloc::{AllocError, Global};
 pub enum Ended {
     /// It was told to end.
     Killed,
-    /// It had something to write, and nothing has the other end of its link.
+    /// It had something to write, and its link is broken: the other end was dropped, or the link was cut.
     SendFailed,
-    /// No frame was in flight towards it, and nothing has the other end of its link.
+    /// No frame was in flight towards it, and its link is broken: the other end was dropped, or the link was cut.
     ReceiveFailed,
     /// What came was neither a message nor a ping within the limit.
     DecodeFailed,

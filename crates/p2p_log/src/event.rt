@@ -133,7 +133,7 @@ pub enum Act {
         attempt: u64,
         node: u64,
     },
-    /// Links an attempt to the listener of another node, at which it arrives from this address. Where that node doesn't run,
+    /// Links an attempt to the listener of a node, at which it arrives from this address. Where that node doesn't run,
     /// the attempt is told that there is no link.
     Connect {
         attempt: u64,

@@ -30,7 +30,7 @@ unspent check (Some l) = cond (list_any (spends check) l.since) None (Some l.tol
 abbrev pub check_in : List Telling → ℕ → Option Check
 check_in ts check = unspent check (last_told (makes_check check) ts)
 
--- the check of this name, until a message is sent to those whom it admitted
+-- the check of this name, until a message is asked for by it
 unfoldable pub check_of : List Entry → ℕ → Option Check
 check_of log check = check_in (told log) check
 

@@ -135,7 +135,7 @@ check_row configs log c n to at =
           (checked_row (offered log n c to) (keys_admitted log n c at (offered log n c to)) (retry_moment log n c at (offered log n c to)))
     ]
 
--- send_checked: to the keys that a check admitted, at its node and on its channel, where no message was sent to them yet
+-- send_checked: to the keys that a check admitted, at its node and on its channel, where no message was asked for by it yet
 abbrev pub spent_row : List Config → List Entry → List ℕ → Bool → Option Check → Row
 spent_row configs log bytes priority None = only reply.Gone
 spent_row configs log bytes priority (Some c) =

@@ -35,7 +35,7 @@ turns_away (reply.Gates gates.Admitted) = false
 turns_away (reply.Gates told) = true
 turns_away _ = false
 
--- whether the answer to a question was taken
+-- whether the answer to a question was given
 abbrev pub is_peer_set : Reply → Bool
 is_peer_set (reply.PeerSet peers) = true
 is_peer_set _ = false

@@ -101,9 +101,9 @@ pub data Telling : Type 0 where
   sends_admitted : (node channel at : ℕ) (keys : List Key) → Telling
   -- a check was made, of this name: these keys may be sent to on this channel
   check_made : (node check channel : ℕ) (keys : List Key) → Telling
-  -- a message was sent by a check of this name
+  -- a message was asked for by a check of this name
   check_spent : (check : ℕ) → Telling
-  -- the answer to the question of this event was taken
+  -- the answer to the question of this event was given
   question_answered : (event : ℕ) → Telling
   -- the reader of a channel was dropped
   reader_dropped : (node channel : ℕ) → Telling

@@ -1,4 +1,4 @@
--- What an entry tells, and what a log does: the one place that looks at acts.
+-- What an entry tells, and what a log does: the one place that says what an act tells.
 use Rattle.std.specs.Prelude.{ℕ, Bool, false, ◌==◌, ◌&&◌, not, cond, List, [], ◌∷◌, ◌++◌, filter, flat_map, length, Option, Some, None}
 use Rattle.std.specs.List.{list_any}
 use Rattle.p2p_base.specs.declared.key.Key.{Key}

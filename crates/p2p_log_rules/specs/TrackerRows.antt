@@ -106,7 +106,7 @@ tracker_row configs log n at = cond (is_up log n) (tracker_step configs log n at
 
 -- ---- what those who asked take
 
--- that the answer to a question was taken
+-- that the answer to a question was given
 abbrev pub answers : ℕ → Telling → Bool
 answers e (telling.question_answered d) = d == e
 answers e _ = false

@@ -34,7 +34,7 @@ rules_at configs n = elim (slice_get configs n) [ None ↦ no_rules | Some c ↦
 
 -- ---- the calls of its directory
 
--- what a telling calls at a node's tracker, whose jitters are below this cooldown: a call, or one for each key in their order
+-- what a telling calls at a node's tracker, whose jitters are drawn by this cooldown: a call, or one for each key in their order
 abbrev pub called : ℕ → ℕ → Telling → List (Call Key)
 called cooldown n (telling.blocks_ended m at) = cond (m == n) (call.UnblockExpired at ∷ []) []
 called cooldown n (telling.set_asked m index primary secondary) = cond (m == n) (call.Track index primary secondary ∷ []) []

@@ -71,6 +71,7 @@ impl<V: Drop> Table<V> {
         ensures unchanged { IfNone result (self.new ≡ []) }
         ensures ordered { IsStrictlySortedBy nat_cmp (keys_of self.old) }
     {
+        // A map says that its keys are in order where it says how many they are.
         let _ = self.tree.len();
         self.tree.pop_first()
     }
