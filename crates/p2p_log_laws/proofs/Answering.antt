@@ -45,7 +45,8 @@ use Rattle.p2p_log_rules.specs.Facts.{is_up, is_stopped}
 use Rattle.p2p_log_rules.specs.Handshakes.{is_handshaking, is_accepted, source_at, takes_acceptance}
 use Rattle.p2p_log_rules.specs.Listening.{known_of, gate_rules_at, gates_puts, arrived_row, arrival_turn, listener_turn, has_place, listener_row}
 use Rattle.p2p_log_rules.specs.Moves.{Moves}
-use Rattle.p2p_log_rules.specs.Rows.{only, mailbox_size_at, is_spawner_full}
+use Rattle.p2p_log_rules.specs.Full.{is_full}
+use Rattle.p2p_log_rules.specs.Rows.{only, is_spawner_full}
 use Rattle.p2p_log_rules.specs.Tracking.{key_cmp, rules_at, asked_by, calls_of, update_subscriptions, blocked_subscriptions}
 use Rattle.p2p_log_rules.specs.TrackerPuts as puts
 use Rattle.p2p_log_rules.specs.TrackerPuts.{acceptance, listen_grant, handshake_puts, item_puts, heeded}
@@ -207,7 +208,7 @@ module _ (w : Words) (n name : ℕ) where
       where
         due : Row
         due = record {
-          reply = reply.Feedback (rows.feedback_by (mailbox_size_at configs m) (line log (queue.Tracker m)));
+          reply = reply.Feedback (rows.feedback_by (is_full configs log (queue.Tracker m)));
           takes = [];
           puts = (queue.Tracker m, item.Call (length log)) ∷ [];
           ends = [];

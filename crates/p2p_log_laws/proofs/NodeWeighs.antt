@@ -48,7 +48,8 @@ use Rattle.p2p_log_rules.specs.Effect.{effect, entry_of, row, send_step_row, rec
 use Rattle.p2p_base.specs.declared.outcome.Feedback.TheVariants as feedback
 use Rattle.p2p_log_rules.specs.Facts.{stops, is_stopped, item_named, taken}
 use Rattle.p2p_log_rules.specs.Moves.{Moves}
-use Rattle.p2p_log_rules.specs.Rows.{only, mailbox_size_at, is_spawner_full}
+use Rattle.p2p_log_rules.specs.Full.{is_full}
+use Rattle.p2p_log_rules.specs.Rows.{only, is_spawner_full}
 use Rattle.p2p_log_rules.specs.Spawning.{spawned_of, spawner_row}
 use Rattle.p2p_log_rules.specs.Tracking.{key_cmp, rules_at, asked_by, grants_peer, calls_of}
 use Rattle.p2p_log_rules.proofs.Calls.{step_calls}
@@ -170,7 +171,7 @@ module _ (configs : List Config) (n : ℕ) (key : Key) (log : List Entry) where
       where
         due : Row
         due = record {
-          reply = reply.Feedback (rows.feedback_by (mailbox_size_at configs m) (line log (queue.Tracker m)));
+          reply = reply.Feedback (rows.feedback_by (is_full configs log (queue.Tracker m)));
           takes = [];
           puts = (queue.Tracker m, item.Call (length log)) ∷ [];
           ends = [];

@@ -28,7 +28,8 @@ use Rattle.p2p_log.specs.Sending.{keys_sent, sending_of}
 use Rattle.p2p_log_rules.specs.Facts.{is_up}
 use Rattle.p2p_log_rules.specs.Reading.{is_read}
 use Rattle.p2p_log_rules.specs.Facts.{is_stopped}
-use Rattle.p2p_log_rules.specs.Rows.{only, mailbox_size_at}
+use Rattle.p2p_log_rules.specs.Full.{is_full}
+use Rattle.p2p_log_rules.specs.Rows.{only}
 use Rattle.p2p_base.specs.declared.outcome.Feedback.TheVariants as feedback
 use Rattle.p2p_log_rules.specs.Tracking.{key_cmp, rules_at, asked_by, calls_of, update_subscriptions, blocked_subscriptions}
 use Rattle.p2p_log_rules.specs.Handshakes.{is_handshaking, source_at}
@@ -56,7 +57,7 @@ asked_shape configs log a n none near = by (is_stopped log n)
   where
     due : Row
     due = record {
-      reply = reply.Feedback (rows.feedback_by (mailbox_size_at configs n) (line log (queue.Tracker n)));
+      reply = reply.Feedback (rows.feedback_by (is_full configs log (queue.Tracker n)));
       takes = [];
       puts = (queue.Tracker n, item.Call (length log)) ∷ [];
       ends = [];

@@ -1,5 +1,5 @@
 -- How much each queue takes before it is full, and which queues are full, by the log.
-use Rattle.std.specs.Prelude.{ℕ, ◌+◌, Bool, false, nat_le, List, length, Option, Some, None}
+use Rattle.std.specs.Prelude.{ℕ, ◌+◌, Bool, false, nat_le, List, length, Option, Some, None, slice_get}
 use Rattle.p2p_log.specs.declared.config.Config.{Config}
 use Rattle.p2p_log.specs.declared.queue.Queue.{Queue}
 use Rattle.p2p_log.specs.declared.queue.Queue.TheVariants as queue
@@ -7,7 +7,9 @@ use Rattle.p2p_log.specs.declared.item.Envelope.{Envelope}
 use Rattle.p2p_log.specs.declared.entry.Entry.{Entry}
 use Rattle.p2p_log.specs.Lines.{line}
 use Rattle.p2p_log_rules.specs.Facts.{channels, capacity_in, sum_capacities}
-use Rattle.p2p_log_rules.specs.Rows.{mailbox_size_at}
+
+abbrev pub mailbox_size_at : List Config → ℕ → ℕ
+mailbox_size_at configs n = elim (slice_get configs n) [ None ↦ 0 | Some c ↦ c.mailbox_size ]
 
 -- the router's mailbox holds `mailbox_size` messages and the bursts of the node's channels
 abbrev pub router_capacity : List Config → List Entry → ℕ → ℕ

@@ -1,5 +1,5 @@
 -- Words for rows: a reply alone, the size of a node's mailboxes and whether its spawner's is full, and rings.
-use Rattle.std.specs.Prelude.{ℕ, Bool, nat_le, List, [], ◌∷◌, ◌++◌, filter, flat_map, length, Some, None, slice_get}
+use Rattle.std.specs.Prelude.{ℕ, Bool, List, [], ◌∷◌, ◌++◌, filter, flat_map}
 use Rattle.p2p_log.specs.declared.config.Config.{Config}
 use Rattle.p2p_log.specs.declared.queue.Queue.{Queue}
 use Rattle.p2p_log.specs.declared.queue.Queue.TheVariants as queue
@@ -10,7 +10,9 @@ use Rattle.p2p_log.specs.declared.entry.Entry.{Entry}
 use Rattle.p2p_log.specs.declared.entry.Reply.{Reply}
 use Rattle.p2p_log.specs.declared.entry.Reply.TheVariants as reply
 use Rattle.p2p_log_rules.specs.declared.row.Row.{Row}
-use Rattle.p2p_log.specs.Lines.{name_of, stands_in, stays, ended_item, line}
+pub use Rattle.p2p_log_rules.specs.Full.{mailbox_size_at}
+use Rattle.p2p_log_rules.specs.Full.{is_full}
+use Rattle.p2p_log.specs.Lines.{name_of, stands_in, stays, ended_item}
 
 -- a reply that moves nothing
 abbrev pub only : Reply → Row
@@ -21,12 +23,9 @@ abbrev pub takes_oldest : List Envelope → Row
 takes_oldest [] = only reply.Idle
 takes_oldest (x ∷ _) = record { reply = reply.Ok; takes = name_of x ∷ []; puts = []; ends = [] }
 
-abbrev pub mailbox_size_at : List Config → ℕ → ℕ
-mailbox_size_at configs n = elim (slice_get configs n) [ None ↦ 0 | Some c ↦ c.mailbox_size ]
-
 -- whether no more connections may wait for a node's spawner
 abbrev pub is_spawner_full : List Config → List Entry → ℕ → Bool
-is_spawner_full configs log n = nat_le (mailbox_size_at configs n) (length (line log (queue.Spawner n)))
+is_spawner_full configs log n = is_full configs log (queue.Spawner n)
 
 -- an item that the next one overwrites, of a queue that holds one
 abbrev pub overwritten : List Envelope → List End

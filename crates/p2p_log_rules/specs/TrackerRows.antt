@@ -26,7 +26,8 @@ use Rattle.p2p_log_rules.specs.declared.row.Row.{Row}
 use Rattle.p2p_log.specs.Lines.{name_of, stays, live, line}
 use Rattle.p2p_log_rules.specs.Connections.{is_ended}
 use Rattle.p2p_log_rules.specs.Facts.{is_up, is_stopped, key_at}
-use Rattle.p2p_log_rules.specs.Rows.{only, mailbox_size_at, ring_ends}
+use Rattle.p2p_log_rules.specs.Full.{is_full}
+use Rattle.p2p_log_rules.specs.Rows.{only, ring_ends}
 use Rattle.p2p_log_rules.specs.Tellings.{Telling}
 use Rattle.p2p_log_rules.specs.Tellings as telling
 use Rattle.p2p_log_rules.specs.Told.{told}
@@ -35,16 +36,16 @@ use Rattle.p2p_log_rules.specs.TrackerPuts.{Put, is_some_of, unblocked_puts, ite
 
 -- ---- what it is asked
 
--- what a mailbox of this size tells of one message more than these: it keeps it also where it is full
-abbrev pub feedback_by : ℕ → List Envelope → Feedback
-feedback_by size waiting = cond (nat_lt (length waiting) size) feedback.Ok feedback.Backoff
+-- what a mailbox tells of one message more, by whether it is full: it keeps it also then
+abbrev pub feedback_by : Bool → Feedback
+feedback_by full = cond full feedback.Backoff feedback.Ok
 
 -- a question, which waits in the tracker's mailbox under the number of its event: that is closed at a node that has stopped
 abbrev pub asked_row : List Config → List Entry → ℕ → Row
 asked_row configs log n =
     cond (is_stopped log n) (only (reply.Feedback feedback.Closed))
     (record {
-      reply = reply.Feedback (feedback_by (mailbox_size_at configs n) (line log (queue.Tracker n)));
+      reply = reply.Feedback (feedback_by (is_full configs log (queue.Tracker n)));
       takes = [];
       puts = (queue.Tracker n, item.Call (length log)) ∷ [];
       ends = [];

@@ -1,6 +1,6 @@
 -- A node's tracker is asked: the row is the log's, and it stands for the log with that entry.
 use Rattle.std.proofs.Common.{◌≡◌, ℕ, ◌+◌, ◌≤◌, Bool, true, false, cond, List, [], ◌∷◌, ◌++◌, length, refl, ap, sym, subst, ◌∙◌, arith, eq-eqb, length-append, Some, None}
-use Rattle.std.specs.Prelude.{slice_get, nat_lt, is_some, ◌==◌, if◌then◌else◌}
+use Rattle.std.specs.Prelude.{slice_get, nat_lt, nat_le, not, is_some, ◌==◌, if◌then◌else◌}
 use Rattle.std.specs.Map.{keys_of}
 use Rattle.std.specs.BTreeMap.{is_at, insert_entry}
 use Rattle.std.specs.Ordering.{nat_cmp}
@@ -25,6 +25,7 @@ use Rattle.p2p_log.specs.Lines.{line}
 use Rattle.p2p_log_rules.specs.declared.row.Row.{Row}
 use Rattle.p2p_log_rules.specs.Effect.{entry_of}
 use Rattle.p2p_log_rules.specs.Facts.{is_stopped}
+use Rattle.p2p_log_rules.specs.Full.{is_full}
 use Rattle.p2p_log_rules.specs.Rows.{only, mailbox_size_at}
 use Rattle.p2p_log_rules.proofs.Families.{kinds_of, are_apart}
 use Rattle.p2p_log_rules.proofs.Handshakes.{handshake_kinds, handshakes_of-apart}
@@ -50,19 +51,22 @@ use Rattle.p2p_log_rules.proofs.Answers.{takes_answer}
 
 -- what the mailbox tells is what the log says
 told_is : (closed : Bool) (items capacity waiting size : ℕ) → closed ≡ false → waiting ≡ items → capacity ≡ size
-    → (if closed then feedback.Closed else (if nat_lt items capacity then feedback.Ok else feedback.Backoff)) ≡ cond (nat_lt waiting size) feedback.Ok feedback.Backoff
+    → (if closed then feedback.Closed else (if nat_lt items capacity then feedback.Ok else feedback.Backoff)) ≡ feedback_by (nat_le size waiting)
 told_is true items capacity waiting size h long wide = cc
 told_is false items capacity waiting size h long wide =
     ap (λ n. if nat_lt n capacity then feedback.Ok else feedback.Backoff) (sym long)
-    ∙ (ap (λ n. if nat_lt waiting n then feedback.Ok else feedback.Backoff) wide ∙ same (nat_lt waiting size))
+    ∙ (ap (λ n. if nat_lt waiting n then feedback.Ok else feedback.Backoff) wide ∙ (ap (λ b. if b then feedback.Ok else feedback.Backoff) (free waiting size) ∙ same (nat_le size waiting)))
   where
-    same : (b : Bool) → (if b then feedback.Ok else feedback.Backoff) ≡ cond b feedback.Ok feedback.Backoff
+    free : (i j : ℕ) → nat_lt i j ≡ not (nat_le j i)
+    free i j = grind (arith, nat_tests)
+
+    same : (full : Bool) → (if not full then feedback.Ok else feedback.Backoff) ≡ feedback_by full
     same true = refl
     same false = refl
 
 -- the row of a question that waits in the mailbox
 abbrev waits_row : List Config → List Entry → ℕ → Row
-waits_row configs log n = asking_row (feedback_by (mailbox_size_at configs n) (line log (queue.Tracker n))) n (length log)
+waits_row configs log n = asking_row (feedback_by (is_full configs log (queue.Tracker n))) n (length log)
 
 asking_is : (configs : List Config) (log : List Entry) (n : ℕ) (t : Tracker) → TrackerStands configs log n t → is_stopped log n ≡ false → asking_row (told_of t.mailbox.desk) n (length log) ≡ asked_row configs log n
 asking_is configs log n t s lasts =
