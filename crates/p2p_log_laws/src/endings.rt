@@ -7,7 +7,7 @@ ghost use Rattle.p2p_log_rules.specs.Lawful.{IsLawful};
 ghost use Rattle.p2p_log_laws.specs.Endings.{EachEndShows, EachEndsOne, EachIsEndedOnce, ReleasesAreTimely};
 
 /// States that each entry that ends a connection shows the reason that its reply gives: the connection had not ended and ran, and
-/// the oldest of what it was told was to end; or the other end of its link was dropped; or the oldest frame in flight towards it
+/// the oldest of what it was told was to end; or its link is broken, as the other end was dropped or it was cut; or the oldest frame in flight towards it
 /// holds neither a message nor a ping within the limit, or holds a message on a channel that is not registered; and that an entry
 /// ends one connection at most, and a connection ends once at most. It does nothing.
 pub fn connections_end_by_cause()

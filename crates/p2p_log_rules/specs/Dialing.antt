@@ -130,7 +130,7 @@ abbrev pub dial_puts : ℕ → Option Key → List (Queue × Item)
 dial_puts n None = []
 dial_puts n (Some k) = (queue.Tracker n, item.AskDial k) ∷ []
 
--- it asks for the first of these keys, once it took this
+-- it asks for the last of these keys, once it took this
 abbrev pub dials_row : ℕ → List (ℕ × ℕ) → List Key → Row
 dials_row n names peers = record { reply = reply.Ok; takes = names; puts = dial_puts n (last_key peers); ends = [] }
 

@@ -1,4 +1,4 @@
--- What each actor's step makes of its first input.
+-- What each actor's step makes of its first input; the end of a link of which it lets go then is in `Dropping`.
 use Rattle.std.specs.Prelude.{ℕ, ◌-◌, Bool, true, false, nat_lt, List, [], ◌∷◌, filter, length, Option, Some, None}
 use Rattle.p2p_tracker_calls.specs.declared.call.Call.TheVariants as call
 use Rattle.p2p_log.specs.declared.config.Config.{Config}

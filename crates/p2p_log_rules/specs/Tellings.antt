@@ -39,7 +39,7 @@ pub data Telling : Type 0 where
   addresses_taken : (node attempt seed : ℕ) (addresses : List SocketAddr) → Telling
   -- it took at this moment that it is linked
   link_taken : (node attempt at : ℕ) → Telling
-  -- it ended: its reservation was given back, or went into a connection
+  -- it ended: its reservation was given back or went to the spawner, or its node stopped
   attempt_ended : (node attempt : ℕ) → Telling
   -- a connection was made, of this name: with whom, and over which link
   connection_made : (node conn : ℕ) (key : Key) (link : ℕ) → Telling

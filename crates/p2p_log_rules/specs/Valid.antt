@@ -79,7 +79,7 @@ abbrev pub checked_of : Option Event → Option ℕ
 checked_of None = None
 checked_of (Some v) = checked_by v.act
 
--- whether an act links an attempt of a node that is there to another that is
+-- whether an act links an attempt of a node that is there to one that is
 abbrev pub links_nodes : List Config → Act → Bool
 links_nodes configs (act.Connect e from n to) = nat_lt n (length configs) && nat_lt to (length configs)
 links_nodes configs _ = false

@@ -63,7 +63,7 @@ fn begin(node: &mut Node, turn: Turn, conn: u64, peer: Key) -> Result<Row, Alloc
 }
 
 /// Writes these frames of a connection to its link, with a ping before them where one is `due` at the moment `at`, in
-/// nanoseconds. Where there is something to write and the other end of the link was dropped, the connection ends in its place.
+/// nanoseconds. Where there is something to write and the link is broken, the connection ends in its place.
 fn write_frames(
     node: &mut Node,
     turn: Turn,

@@ -125,7 +125,7 @@ pub(crate) fn end_killed(
     Ok(row)
 }
 
-/// A connection ends that has something to write to a link whose other end was dropped: these frames, which were taken.
+/// A connection ends that has something to write to a link that is broken: these frames, which were taken.
 pub(crate) fn end_unwritten(
     node: &mut Node,
     turn: Turn,
@@ -144,7 +144,7 @@ pub(crate) fn end_unwritten(
     Ok(row)
 }
 
-/// A connection ends towards which no frame is in flight, and none will be: the other end of its link was dropped.
+/// A connection ends towards which no frame is in flight, and none will be: its link is broken.
 pub(crate) fn end_unread(
     node: &mut Node,
     turn: Turn,

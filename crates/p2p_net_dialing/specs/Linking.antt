@@ -43,7 +43,7 @@ abbrev pub opened : Bool → ℕ → Opening → Links → Links
 opened false k o l = l
 opened true k o l = opened_with k o l
 
--- the entry k links this attempt of the node n to the listener of the node m, where that has started
+-- the entry k links this attempt of the node n to the listener of the node m, where that is up
 pub record IsLinked (k name n m : ℕ) (from : SocketAddr) (old new : List Node) (l links : Links) (r : Row) : Type 0 where
   pub first : Node
   pub second : Node

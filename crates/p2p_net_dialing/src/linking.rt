@@ -1,4 +1,4 @@
-//! Linking an attempt of one node to the listener of another.
+//! Linking an attempt of a node to the listener of a node.
 ghost use Rattle.std.specs.Prelude.{◌≡◌, IfOk};
 ghost use Rattle.p2p_net_dialing.specs.Linking.{arrives as arrives_test, IsLinked};
 ghost use Rattle.p2p_net_node.specs.Meetings.{EndsThere};
@@ -21,7 +21,7 @@ fn arrives(links: bool, reply: &Reply) -> bool
     }
 }
 
-/// Links an attempt to the listener of another node, at which it arrives from this address, where that node has started.
+/// Links an attempt to the listener of a node, at which it arrives from this address, where that node is up.
 pub fn link(
     alloc: Global,
     nodes: &mut Vec<Node>,
