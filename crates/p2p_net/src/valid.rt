@@ -11,7 +11,7 @@ use p2p_net_node::{Node, Requested};
 fn may_register(node: &Node, requested: &Requested, channel: u64, quota: Rate) -> bool
     ensures { result ≡ may_register_test node.now requested.now channel quota }
 {
-    let capacity = node.retained as u128 * quota.burst as u128;
+    let capacity = node.capacity(quota);
     let most = usize::MAX as u128;
     ((!requested.started && !requested.capacities.has(channel))
         && (0 < quota.burst && 0 < quota.period))

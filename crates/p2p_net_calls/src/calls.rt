@@ -23,7 +23,7 @@ pub fn register(node: &mut Node, turn: Turn, channel: u64, quota: Rate) -> Resul
     if node.stopped {
         return Ok(only(turn.alloc, Reply::Gone));
     }
-    let capacity = node.retained * quota.burst as usize;
+    let capacity = node.capacity(quota) as usize;
     let rate = Quota::new(quota.burst, quota.period).unwrap();
     node.channels.register(turn.alloc, channel, capacity, rate)?;
     node.router.subscribe(turn.alloc, channel)?;

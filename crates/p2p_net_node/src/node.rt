@@ -11,9 +11,10 @@ ghost use Rattle.p2p_net_router.specs.Stands.{StandsFor};
 ghost use Rattle.p2p_net_connections.specs.Spawner.{no_spawning};
 ghost use Rattle.p2p_net_tracker.specs.Begins.{IsNew};
 ghost use Rattle.p2p_net_node.specs.Ready.{is_started as started_test};
+ghost use Rattle.p2p_net_node.specs.Requested.{capacity_by};
 
 use crate::configs::retained;
-use p2p_log::Config;
+use p2p_log::{Config, Rate};
 use p2p_net_channels::Channels;
 use p2p_net_connections::{Connections, Spawning};
 use p2p_net_gates::{Dialing, Listening, gates_config};
@@ -104,6 +105,13 @@ impl Node {
             stopped: false,
             failed: false,
         })
+    }
+
+    /// How many messages a channel of this quota holds: the bursts of the retained peers.
+    pub fn capacity(&self, quota: Rate) -> u128
+        ensures { result ≡ capacity_by self.now quota }
+    {
+        self.retained as u128 * quota.burst as u128
     }
 
     /// Whether it has started, and has not stopped.

@@ -58,7 +58,7 @@ impl Requested {
     {
         match act {
             Act::Register { channel, quota, .. } => {
-                let capacity = node.retained * quota.burst as usize;
+                let capacity = node.capacity(*quota) as usize;
                 Ok(self.register(*channel, capacity)?)
             }
             Act::Start { .. } => {
