@@ -39,7 +39,7 @@ use Rattle.p2p_net_connections.proofs.Listed.{live_listed}
 use Rattle.p2p_net_links.specs.Left.{all_dropped}
 use Rattle.p2p_net_links.specs.Stands.{LinksStand}
 use Rattle.p2p_net_links.specs.declared.links.Links.{Links}
-use Rattle.p2p_net_calls.specs.Stopping.{RouterKeeps, ends_handed, end_of, messages_handed}
+use Rattle.p2p_net_calls.specs.Stopping.{ends_handed, end_of, messages_handed}
 use Rattle.p2p_net_calls.proofs.StopLists.{one_end}
 use Rattle.p2p_net_calls.proofs.StopRow.{side_is}
 
@@ -50,15 +50,6 @@ none_named [] is = refl
 none_named (x ∷ xs) is = absurd (cc)
 
 -- ---- what the router keeps through the stop
-
-pub keeps_both : (a b c : Router) → RouterKeeps a b → RouterKeeps b c → RouterKeeps a c
-keeps_both a b c p q = record {
-  number = q.number ∙ p.number;
-  channels = q.channels ∙ p.channels;
-  numbers = q.numbers ∙ p.numbers;
-  taken = q.taken ∙ p.taken;
-  routes = q.routes ∙ p.routes;
-}
 
 -- its lists of peers are those of the router before it was closed
 pub listing_moved : (old new : Router) (items : List Envelope) → new.number ≡ old.number → new.channels ≡ old.channels → new.subscriptions ≡ old.subscriptions → new.messenger.lists ≡ old.messenger.lists → new.names ≡ old.names

@@ -73,7 +73,8 @@ use Rattle.p2p_net_node.proofs.Performing.{asked}
 use Rattle.p2p_net_node.proofs.Receivers.{admits_apart, sends_apart, closes_apart}
 use Rattle.p2p_net_calls.specs.Stopping.{IsBare, NodeLeft, left, StopsRunning, RouterKeeps}
 use Rattle.p2p_net_calls.proofs.StopLeft as step
-use Rattle.p2p_net_calls.proofs.StopDrops.{none_named, keeps_both, listing_moved, ended_now, any_none, no_channel}
+use Rattle.p2p_net_calls.proofs.Looping.{router_kept}
+use Rattle.p2p_net_calls.proofs.StopDrops.{none_named, listing_moved, ended_now, any_none, no_channel}
 
 -- ---- the node that stopped
 
@@ -196,8 +197,8 @@ module _ (configs : List Config) (log : List Entry) (moment seed : ℕ) (by_star
 
   router_keeps : RouterKeeps x.router y.router
   router_keeps =
-      keeps_both x.router d.left.router y.router
-      (keeps_both x.router d.shaken.router d.left.router (subst (RouterKeeps x.router) (sym router_same) d.mailboxes_ended.router) d.connections_rest.router)
+      router_kept x.router d.left.router y.router
+      (router_kept x.router d.shaken.router d.left.router (subst (RouterKeeps x.router) (sym router_same) d.mailboxes_ended.router) d.connections_rest.router)
       d.closed.router
 
   ran : RouterStands configs log n x.router
