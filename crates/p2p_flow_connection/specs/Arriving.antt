@@ -1,5 +1,5 @@
 -- The messages that arrived for the channels of a node, as contracts see them, and what their calls answer and leave.
-use Rattle.std.specs.Prelude.{ℕ, Bool, false, List, [], Option, Some, None}
+use Rattle.std.specs.Prelude.{ℕ, Bool, false, not, List, [], Option, Some, None}
 use Rattle.std.specs.BTreeMap.{is_at, insert_entry}
 use Rattle.std.specs.Map.{lookup, set_value, remove_entry}
 use Rattle.std.specs.Ordering.{nat_cmp}
@@ -23,6 +23,15 @@ module _ {P : Type 0} where
 
   abbrev pub mailbox_of : Arrived P → ℕ → Option (Queue (P × List ℕ))
   mailbox_of a channel = mailbox_in a.mailboxes channel
+
+  -- there is a mailbox, and it wasn't closed
+  abbrev pub is_open_in : Option (Queue (P × List ℕ)) → Bool
+  is_open_in None = false
+  is_open_in (Some q) = not q.closed
+
+  -- a channel takes messages: it is registered, and its mailbox wasn't closed
+  abbrev pub is_open : Arrived P → ℕ → Bool
+  is_open a channel = is_open_in (mailbox_of a channel)
 
   -- after the registration of a channel with so many places
   abbrev pub with_channel : Arrived P → ℕ → ℕ → Arrived P

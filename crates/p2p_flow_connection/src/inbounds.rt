@@ -6,7 +6,7 @@ ghost use Rattle.std.specs.Map.{remove_entry};
 ghost use Rattle.std.specs.Ordering.{nat_cmp};
 ghost use Rattle.p2p_base.specs.Queue.{empty_queue, enqueued, without_oldest, closed_queue};
 ghost use Rattle.p2p_base.specs.declared.policy.Keep.TheVariants as keep;
-ghost use Rattle.p2p_flow_connection.specs.Arriving.{nothing_arrived, mailbox_in, mailbox_of, without_channel, changed_at, answered_by, oldest_of, with_channel, arrival_answer, with_arrival, arrival_waiting, without_arrival, without_receiver};
+ghost use Rattle.p2p_flow_connection.specs.Arriving.{nothing_arrived, mailbox_in, mailbox_of, is_open_in, is_open, without_channel, changed_at, answered_by, oldest_of, with_channel, arrival_answer, with_arrival, arrival_waiting, without_arrival, without_receiver};
 
 use p2p_base::{Mailbox, NoRoom, Sent};
 use p2p_flow::{Channel, Message, Refusing, refusing};
@@ -74,6 +74,13 @@ impl<P: Drop> Inbounds<P> {
         ensures { result ≡ is_some (mailbox_of self.now channel) }
     {
         is_registered_in(&self.mailboxes, channel)
+    }
+
+    /// Whether a channel takes messages: it is registered, and its mailbox wasn't closed.
+    pub fn is_open(&self, channel: Channel) -> bool
+        ensures { result ≡ is_open self.now channel }
+    {
+        is_open_in(&self.mailboxes, channel)
     }
 
     /// Closes the mailbox of a channel, and drops what waits there. A channel that isn't registered stays so.
@@ -150,6 +157,16 @@ fn is_registered_in<P>(mailboxes: &Mailboxes<P>, channel: Channel) -> bool
     ensures { result ≡ is_some (mailbox_in mailboxes.now.entries channel) }
 {
     mailboxes.contains_key(&channel)
+}
+
+// Whether a channel has a mailbox that wasn't closed.
+fn is_open_in<P>(mailboxes: &Mailboxes<P>, channel: Channel) -> bool
+    ensures { result ≡ is_open_in (mailbox_in mailboxes.now.entries channel) }
+{
+    match mailboxes.get(&channel) {
+        Some(mailbox) => !mailbox.is_closed(),
+        None => false,
+    }
 }
 
 // Closes the mailbox of a channel, where there is one.

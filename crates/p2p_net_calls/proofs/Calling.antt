@@ -1,5 +1,5 @@
 -- The calls of a node: registering, starting, sending and reading.
-use Rattle.std.proofs.Common.{◌≡◌, ℕ, Bool, ◌+◌, ◌*◌, ◌^◌, ◌<◌, true, false, cond, List, [], ◌∷◌, ◌++◌, length, map, refl, ap, sym, subst, ◌∙◌, arith, Option, Some, None}
+use Rattle.std.proofs.Common.{option_map, ◌≡◌, ℕ, Bool, ◌+◌, ◌*◌, ◌^◌, ◌<◌, true, false, cond, List, [], ◌∷◌, ◌++◌, length, map, refl, ap, sym, subst, ◌∙◌, arith, Option, Some, None}
 use Rattle.std.specs.Prelude.{filter, flat_map, slice_get, nat_lt}
 use Rattle.std.proofs.lemmas.Bool.{and_parts}
 use Rattle.std.proofs.lemmas.Bool.Decides.{nat_tests}
@@ -21,15 +21,19 @@ use Rattle.p2p_log_rules.specs.Valid.{is_quota, may_register, may_act}
 use Rattle.p2p_log_rules.proofs.Channels.{is_up-asked, channels-asked, is_stopped-kept}
 use Rattle.p2p_runtime.specs.QuotaStep.{IsQuota}
 use Rattle.p2p_log_laws.proofs.Untouched.{line-untouched}
+use Rattle.p2p_net_queues.specs.Lines.{HoldsLines}
 use Rattle.p2p_net_queues.specs.Tables as table
 use Rattle.p2p_net_queues.specs.Tables.{waiting, popped_at}
 use Rattle.p2p_net_router.specs.Stands.{StandsFor}
 use Rattle.p2p_net_router.specs.declared.router.Router.{Router}
+use Rattle.p2p_base.specs.declared.key.Key.{Key}
+use Rattle.p2p_flow_connection.specs.Arriving.{arrival_waiting, without_arrival}
 use Rattle.p2p_net_channels.specs.declared.channels.Channels.{Channels}
-use Rattle.p2p_net_channels.specs.Channels.{registered_with, has_reader, is_message, message_first, taken_on, read_from}
-use Rattle.p2p_net_channels.specs.Stands.{ChannelsStand}
+use Rattle.p2p_net_channels.specs.Channels.{registered_with, has_reader, none_told, read_told, named_after, read_from}
+use Rattle.p2p_net_channels.specs.Stands.{received, ChannelsStand}
 use Rattle.p2p_net_queues.proofs.Holding.{holds_taken}
 use Rattle.p2p_net_channels.proofs.Changes.{channels_moved, same_channel, channels_stopped}
+use Rattle.p2p_net_channels.proofs.Mailboxes.{mailboxes_read, read_is, oldest_named}
 use Rattle.p2p_net_channels.proofs.Readers.{reader_is}
 use Rattle.p2p_net_channels.proofs.Registering.{channels_registered}
 use Rattle.p2p_net_links.specs.Stands.{LinksStand}
@@ -135,7 +139,7 @@ register_gone configs log at seed n c rate x y l links r s t over d kept =
       node =
           subst (NodeStands configs (log ++ e ∷ []) n) (sym d.1)
           (each_part configs log ev n x x (place.channels ∷ place.router ∷ []) s refl (λ p out. not_among (place.channels ∷ place.router ∷ []) p n n out) refl refl (
-            channels_stopped configs log e n x.channels (s.each place.channels) over (admits_apart configs log e n a refl (λ d. refl)) (sends_apart log e n a refl (refl, refl)) (closes_apart log e n a refl refl)
+            channels_stopped configs log e n x.channels (s.each place.channels) over (admits_apart configs log e n a refl (λ d. refl)) (sends_apart log e n a refl (refl, refl)) (closes_apart log e n a refl refl refl)
                 (λ f. line-still log e reply.Gone (queue.Channel n f) still),
             (rests_still configs log e n x.router reply.Gone (s.each place.router) over refl (unrouted_apart log e n refl) still, tt),
           ));
@@ -236,34 +240,39 @@ start_performs configs log at seed n x y l links r s t d kept = by x.stopped (sy
 
 -- the row of a reader is that of its channel
 recv_is : (configs : List Config) (log : List Entry) (n c : ℕ) (ch : Channels) (stopped : Bool) → ChannelsStand configs log n ch → stopped ≡ is_stopped log n → has_reader ch c ≡ true
-    → oldest_read (cond stopped reply.NetworkClosed reply.Pending) (waiting ch.waiting c) ≡ recv_row configs log c n
+    → read_told (none_told stopped) (arrival_waiting ch.inbounds c) (slice_get (waiting ch.waiting c) 0) ≡ recv_row configs log c n
 recv_is configs log n c ch stopped s life has =
-    ap (oldest_read (cond stopped reply.NetworkClosed reply.Pending)) (s.waits c)
+    read_is (none_told stopped) ch.inbounds c ch.waiting s.named
+    ∙ (ap (oldest_read (cond stopped reply.NetworkClosed reply.Pending)) (s.waits c)
     ∙ (ap (λ b. oldest_read (cond b reply.NetworkClosed reply.Pending) (line log (queue.Channel n c))) life
-    ∙ sym (ap (λ b. cond b (oldest_read (cond (is_stopped log n) reply.NetworkClosed reply.Pending) (line log (queue.Channel n c))) (only reply.Gone)) (sym (reader_is configs log n c ch s) ∙ has)))
+    ∙ sym (ap (λ b. cond b (oldest_read (cond (is_stopped log n) reply.NetworkClosed reply.Pending) (line log (queue.Channel n c))) (only reply.Gone)) (sym (reader_is configs log n c ch s) ∙ has))))
 
--- the channels, once the first item of one was read
-read_stands : (configs : List Config) (log : List Entry) (e : Entry) (n c : ℕ) (ch : Channels) (empty : Reply) (xs : List Envelope) → ChannelsStand configs log n ch → waiting ch.waiting c ≡ xs → e.event.act ≡ act.Recv c n
-    → e.takes ≡ (oldest_read empty xs).takes → e.puts ≡ (oldest_read empty xs).puts → e.ends ≡ (oldest_read empty xs).ends → ChannelsStand configs (log ++ e ∷ []) n (taken_on (message_first (slice_get xs 0)) c ch)
-read_stands configs log e n c ch empty [] s is acts takes puts ends =
-    channels_moved configs log e n ch ch.waiting s (ap (registers_at configs n) acts) (admits_apart configs log e n (act.Recv c n) acts (λ d. refl)) (sends_apart log e n (act.Recv c n) acts (refl, refl)) (closes_apart log e n (act.Recv c n) acts refl)
-    (λ f. s.waits f ∙ sym (line-still log e e.reply (queue.Channel n f) (record { reply = refl; takes = takes; puts = puts; ends = ends })))
-read_stands configs log e n c ch empty (y ∷ ys) s is acts takes puts ends = read_first configs log e n c ch y ys s is acts y.item refl takes puts ends
+-- what waits in the channels, once the oldest message of one was read
+read_waits : (configs : List Config) (log : List Entry) (e : Entry) (n c : ℕ) (ch : Channels) (empty : Reply) (o : Option (Key × List ℕ)) (xs : List Envelope) → ChannelsStand configs log n ch
+    → option_map Some o ≡ option_map (λ y. received y.item) (slice_get xs 0) → waiting ch.waiting c ≡ xs → e.takes ≡ (oldest_read empty xs).takes → e.puts ≡ (oldest_read empty xs).puts → e.ends ≡ (oldest_read empty xs).ends
+    → HoldsLines (queue.Channel n) (log ++ e ∷ []) (named_after o c ch.waiting)
+read_waits configs log e n c ch empty None [] s first is takes puts ends =
+    λ f. s.waits f ∙ sym (line-still log e e.reply (queue.Channel n f) (record { reply = refl; takes = takes; puts = puts; ends = ends }))
+read_waits configs log e n c ch empty None (y ∷ ys) s first is takes puts ends = cc
+read_waits configs log e n c ch empty (Some m) [] s first is takes puts ends = cc
+read_waits configs log e n c ch empty (Some m) (y ∷ ys) s first is takes puts ends = taken y.item first takes puts ends
   where
-    still : (configs : List Config) (log : List Entry) (e : Entry) (n c : ℕ) (ch : Channels) → ChannelsStand configs log n ch → e.event.act ≡ act.Recv c n → e.takes ≡ [] → e.puts ≡ [] → e.ends ≡ [] → ChannelsStand configs (log ++ e ∷ []) n ch
-    still configs log e n c ch s acts takes puts ends =
-        channels_moved configs log e n ch ch.waiting s (ap (registers_at configs n) acts) (admits_apart configs log e n (act.Recv c n) acts (λ d. refl)) (sends_apart log e n (act.Recv c n) acts (refl, refl)) (closes_apart log e n (act.Recv c n) acts refl)
-        (λ f. s.waits f ∙ sym (line-still log e e.reply (queue.Channel n f) (record { reply = refl; takes = takes; puts = puts; ends = ends })))
-
-    read_first : (configs : List Config) (log : List Entry) (e : Entry) (n c : ℕ) (ch : Channels) (y : Envelope) (ys : List Envelope) → ChannelsStand configs log n ch → waiting ch.waiting c ≡ y ∷ ys → e.event.act ≡ act.Recv c n
-        → (i : Item) → y.item ≡ i → e.takes ≡ (read_row (name_of y) i).takes → e.puts ≡ (read_row (name_of y) i).puts → e.ends ≡ (read_row (name_of y) i).ends
-        → ChannelsStand configs (log ++ e ∷ []) n (taken_on (cond (is_message i) (Some y) None) c ch)
-    read_first configs log e n c ch y ys s is acts (item.Message bytes copy from) it takes puts ends =
-        channels_moved configs log e n ch (popped_at ch.waiting c) s (ap (registers_at configs n) acts) (admits_apart configs log e n (act.Recv c n) acts (λ d. refl)) (sends_apart log e n (act.Recv c n) acts (refl, refl)) (closes_apart log e n (act.Recv c n) acts refl)
-        (holds_taken (queue.Channel n) (same_channel n) log e c y ys ch.waiting s.waits
+    taken : (i : Item) → Some (Some m) ≡ Some (received i) → e.takes ≡ (read_row (name_of y) i).takes → e.puts ≡ (read_row (name_of y) i).puts → e.ends ≡ (read_row (name_of y) i).ends
+        → HoldsLines (queue.Channel n) (log ++ e ∷ []) (popped_at ch.waiting c)
+    taken (item.Message bytes copy from) first takes puts ends =
+        holds_taken (queue.Channel n) (same_channel n) log e c y ys ch.waiting s.waits
         (record { first = sym (s.waits c) ∙ is; gone = ap (λ t. t ++ flat_map ended_item e.ends) takes ∙ ap (λ d. name_of y ∷ flat_map ended_item d) ends })
-        (λ f. ap (λ p. filter (stands_in (queue.Channel n f)) (placed (length log) 0 p)) puts))
-    read_first configs log e n c ch y ys s is acts _ it takes puts ends = still configs log e n c ch s acts takes puts ends
+        (λ f. ap (λ p. filter (stands_in (queue.Channel n f)) (placed (length log) 0 p)) puts)
+    taken _ first takes puts ends = cc
+
+-- the channels then
+read_stands : (configs : List Config) (log : List Entry) (e : Entry) (n c : ℕ) (ch : Channels) (empty : Reply) → ChannelsStand configs log n ch → e.event.act ≡ act.Recv c n
+    → e.takes ≡ (oldest_read empty (waiting ch.waiting c)).takes → e.puts ≡ (oldest_read empty (waiting ch.waiting c)).puts → e.ends ≡ (oldest_read empty (waiting ch.waiting c)).ends
+    → ChannelsStand configs (log ++ e ∷ []) n (read_from c ch)
+read_stands configs log e n c ch empty s acts takes puts ends =
+    channels_moved configs log e n ch (without_arrival ch.inbounds c) (named_after (arrival_waiting ch.inbounds c) c ch.waiting) s (mailboxes_read ch c s.named) refl (ap (registers_at configs n) acts)
+    (admits_apart configs log e n (act.Recv c n) acts (λ d. refl)) (sends_apart log e n (act.Recv c n) acts (refl, refl)) (closes_apart log e n (act.Recv c n) acts refl refl)
+    (read_waits configs log e n c ch empty (arrival_waiting ch.inbounds c) (waiting ch.waiting c) s (oldest_named ch.inbounds c ch.waiting s.named) refl takes puts ends)
 
 read_on_performs : (configs : List Config) (log : List Entry) (at seed n c : ℕ) (b : Bool) (x y : Node) (l links : Links) (r : Row) → NodeStands configs log n x → LinksStand configs log l
     → has_reader x.channels c ≡ b → ReadsOn b c x y r → links ≡ l → Performs configs log (asked at seed (act.Recv c n)) n y links r
@@ -277,14 +286,16 @@ read_on_performs configs log at seed n c true x y l links r s t has d kept =
     let e = effect configs log ev in
     let chan : ChannelsStand configs log n x.channels = s.each place.channels in
     let parts : y ≡ record x { channels = read_from c x.channels } = d.1 in
-    let is = recv_is configs log n c x.channels x.stopped chan s.life has in
+    let stopped = x.channels.inbounds.ended in
+    let is = recv_is configs log n c x.channels stopped chan chan.ended has in
+    let told = sym (read_is (none_told stopped) x.channels.inbounds c x.channels.waiting chan.named) ∙ is in
     record {
       row_is = d.0 ∙ is;
       node =
           each_part configs log ev n x y (place.channels ∷ []) s (subst (λ z. z ≡ with_parts (place.channels ∷ []) x z) (sym parts) refl)
           (λ p out. not_among (place.channels ∷ []) p n n out) refl refl (
             subst (ChannelsStand configs (log ++ e ∷ []) n) (sym (ap (λ (z : Node). z.channels) parts))
-                (read_stands configs log e n c x.channels (cond x.stopped reply.NetworkClosed reply.Pending) (waiting x.channels.waiting c) chan refl refl (ap (λ (z : Row). z.takes) (sym is)) (ap (λ (z : Row). z.puts) (sym is)) (ap (λ (z : Row). z.ends) (sym is))),
+                (read_stands configs log e n c x.channels (none_told stopped) chan refl (ap (λ (z : Row). z.takes) (sym told)) (ap (λ (z : Row). z.puts) (sym told)) (ap (λ (z : Row). z.ends) (sym told))),
             tt,
           );
       linked = subst (LinksStand configs (log ++ e ∷ [])) (sym kept) (links_kept configs log ev l t refl);

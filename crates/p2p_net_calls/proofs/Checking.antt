@@ -116,7 +116,7 @@ module _ (configs : List Config) (log : List Entry) (at seed n c : ℕ) (to : Re
       let still = effect-still configs log ev reply.Gone is in
       done x.channels x.router (told ∙ sym is) same
       (channels_unasked configs log e n c to x.channels chan refl (sent_moments-asked log e n c to (Asks.checks refl)) (admits_apart configs log e n a refl (λ d. refl)) (λ d. line-untouched configs log ev (queue.Channel n d) refl refl refl)
-      (λ name. checked_at-unmade log e n name c n to refl (ap (λ (z : Row). check_tells n (length log) c z.reply) is)) (closes_apart log e n a refl refl) has)
+      (λ name. checked_at-unmade log e n name c n to refl (ap (λ (z : Row). check_tells n (length log) c z.reply) is)) (closes_apart log e n a refl refl refl) has)
       (lives_idle configs log e n x.router x.router [] lives (nothing_gone configs log n x.router lives) aside (ap (λ (z : Row). goes (entry_of ev z)) is) still.puts)
 
   -- the channels, whose quota was asked, with these checks
@@ -124,7 +124,7 @@ module _ (configs : List Config) (log : List Entry) (at seed n c : ℕ) (to : Re
   unfolding effect
   channels_now m checks =
       channels_asked configs log e n x.channels m chan refl (admits_apart configs log e n a refl (λ d. refl)) (λ d. line-untouched configs log ev (queue.Channel n d) refl refl refl)
-      checks (closes_apart log e n a refl refl) c at to (sent_moments-asked log e n c to (Asks.checks refl)) refl late
+      checks (closes_apart log e n a refl refl refl) c at to (sent_moments-asked log e n c to (Asks.checks refl)) refl late
 
   -- the router, of which at most a list was taken
   router_now : (rep : Reply) (new : Router) → row configs log at seed a ≡ taking names (only rep) → RouterOver configs log n x.router new names → RouterLives configs (log ++ e ∷ []) n new
@@ -231,7 +231,7 @@ module _ (configs : List Config) (log : List Entry) (at seed check : ℕ) (bytes
     unfolding effect
     channels_then =
         channels_spent configs log entry n x.channels left chan_then refl (admits_apart configs log entry n spends refl (λ d. refl)) (λ d. line-untouched configs log spent (queue.Channel n d) refl refl refl)
-        checks_then (closes_apart log entry n spends refl refl) (λ d k. sent_moments-apart log entry n d k refl)
+        checks_then (closes_apart log entry n spends refl refl refl) (λ d k. sent_moments-apart log entry n d k refl)
 
     -- nothing is handed to the router
     unsent : (rep : Reply) → row configs log at seed spends ≡ only rep → r ≡ only rep → y ≡ mid → Performs configs log spent n y links r

@@ -60,9 +60,9 @@ module _ (configs : List Config) (log : List Entry) (at seed n c : ℕ) where
   emptied_waits : (ch : Channels) → ChannelsStand configs log n ch → HoldsLines (queue.Channel n) (log ++ entry_of ev due ∷ []) (cleared_at ch.waiting c)
   emptied_waits ch s d = waits_cleared (queue.Channel n) (same_channel n) log c ch.waiting s.waits d ∙ sym (left_in d (same_queue q (queue.Channel n d)) refl)
 
-  now_stand : (ch : Channels) → ChannelsStand configs log n ch → ChannelsStand configs (log ++ entry_of ev due ∷ []) n (closed_with c ch)
-  now_stand ch s =
-      channels_closed configs log (entry_of ev due) n c ch s refl refl
+  now_stand : (ch : Channels) → ChannelsStand configs log n ch → has_reader ch c ≡ true → ChannelsStand configs (log ++ entry_of ev due ∷ []) n (closed_with c ch)
+  now_stand ch s has =
+      channels_closed configs log (entry_of ev due) n c ch s has refl refl
       (admits_apart configs log (entry_of ev due) n (act.Close c n) refl (λ e. refl)) (sends_apart log (entry_of ev due) n (act.Close c n) refl (refl, refl))
       (emptied_waits ch s)
 
@@ -86,7 +86,7 @@ close_on_performs configs log at seed n c true x y l links r s t has d kept =
           each_part configs log ev n x y (place.channels ∷ []) s (subst (λ z. z ≡ with_parts (place.channels ∷ []) x z) (sym d.1) refl)
           (λ p out. not_among (place.channels ∷ []) p n n out) refl refl (
             subst (λ (z : Row). ChannelsStand configs (log ++ entry_of ev z ∷ []) n y.channels) (sym is)
-                (subst (ChannelsStand configs (log ++ entry_of ev due ∷ []) n) (sym (ap (λ (z : Node). z.channels) d.1)) (now_stand configs log at seed n c x.channels chan)),
+                (subst (ChannelsStand configs (log ++ entry_of ev due ∷ []) n) (sym (ap (λ (z : Node). z.channels) d.1)) (now_stand configs log at seed n c x.channels chan has)),
             tt,
           );
       linked = subst (LinksStand configs (log ++ effect configs log ev ∷ [])) (sym kept) (links_kept configs log ev l t refl);

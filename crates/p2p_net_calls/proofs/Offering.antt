@@ -90,7 +90,7 @@ module _ (configs : List Config) (log : List Entry) (at seed n c : ℕ) (bytes :
   unfolding effect
   channels_now =
       channels_asked configs log e n x.channels x.channels.checks chan refl (admits_apart configs log e n a refl (λ d. refl)) (λ d. line-untouched configs log ev (queue.Channel n d) refl refl refl)
-      (checks_kept log e n x.channels.checks chan.checks (λ name. checked_at-apart log e n name refl)) (closes_apart log e n a refl refl) c at to
+      (checks_kept log e n x.channels.checks chan.checks (λ name. checked_at-apart log e n name refl)) (closes_apart log e n a refl refl refl) c at to
       (sent_moments-asked log e n c to (Asks.sends bytes priority refl)) refl late
 
   aside : IsAside configs log e n
@@ -184,7 +184,7 @@ module _ (configs : List Config) (log : List Entry) (at seed n c : ℕ) (bytes :
   unregistered : capacity_at x.channels c ≡ None → ChannelsStand configs (log ++ e ∷ []) n x.channels
   unfolding effect
   unregistered has = channels_unasked configs log e n c to x.channels chan refl (sent_moments-asked log e n c to (Asks.sends bytes priority refl)) (admits_apart configs log e n a refl (λ d. refl))
-      (λ d. line-untouched configs log ev (queue.Channel n d) refl refl refl) (λ name. checked_at-apart log e n name refl) (closes_apart log e n a refl refl) has
+      (λ d. line-untouched configs log ev (queue.Channel n d) refl refl refl) (λ name. checked_at-apart log e n name refl) (closes_apart log e n a refl refl refl) has
 
   gone : capacity_at x.channels c ≡ None → row configs log at seed a ≡ only reply.Gone → r ≡ only reply.Gone → y ≡ x → Done
   unfolding effect

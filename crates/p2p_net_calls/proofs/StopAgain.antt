@@ -27,6 +27,7 @@ use Rattle.p2p_log_rules.specs.Links.{has_listening}
 use Rattle.p2p_log_rules.proofs.Tellings.{told-append}
 use Rattle.p2p_log_rules.proofs.Channels.{tells_again, is_stopped-append}
 use Rattle.p2p_log_rules.proofs.Connections.{begins_act, live_connection-kept}
+use Rattle.p2p_log_rules.proofs.Closing.{reader_kinds, is_closed-apart}
 use Rattle.p2p_log_rules.proofs.Families.{kinds_of, are_apart}
 use Rattle.p2p_log_rules.proofs.Handshakes.{handshakes_of-kept, of_handshakes}
 use Rattle.p2p_log_rules.proofs.Links.{listening_ends_of-kept}
@@ -56,7 +57,7 @@ use Rattle.p2p_net_node.specs.Stands.{NodeStands, PartStands, RouterLives}
 use Rattle.p2p_net_node.specs.declared.node.Node.{Node}
 use Rattle.p2p_net_node.proofs.Frames.{effect-act, rests_on}
 use Rattle.p2p_net_node.proofs.Performing.{asked, Performs, IsStill, effect-still, line-still, taken-none}
-use Rattle.p2p_net_node.proofs.Receivers.{receives_nothing, admits_nothing, sends_apart, closes_apart}
+use Rattle.p2p_net_node.proofs.Receivers.{receives_nothing, admits_nothing, sends_apart}
 
 module _ (configs : List Config) (log : List Entry) (moment seed : ℕ) (by_start : Bool) (n : ℕ) (x : Node) (s : NodeStands configs log n x) (over : is_stopped log n ≡ true) where
   abbrev ev : Event
@@ -135,7 +136,7 @@ module _ (configs : List Config) (log : List Entry) (moment seed : ℕ) (by_star
         lines = λ c. stays (queue.Channel n c);
         admits = admits_nothing configs log e n none_taken;
         sends = sends_apart log e n (act.Stop by_start n) acts (refl, refl);
-        closes = closes_apart log e n (act.Stop by_start n) acts refl;
+        closes = record { readers = λ c. is_closed-apart log e n c (ap (λ b. are_apart (kinds_of b) reader_kinds) acts); goes_on = over_after ∙ sym over };
       })
   part_rests place.connections =
       connections_frame configs log e n x.connections (s.each place.connections)

@@ -30,6 +30,7 @@ use Rattle.p2p_log_rules.specs.Stopping.{brought_by, queues_at, with_attempt, wi
 use Rattle.p2p_log_rules.specs.Told.{told, connections_in, attempts_in}
 use Rattle.p2p_log_rules.proofs.Channels.{IsStopOf, is_stopped-stops}
 use Rattle.p2p_log_rules.proofs.Emptied.{OfKinds, each_emptied}
+use Rattle.p2p_log_rules.proofs.Closing.{reader_kinds, is_closed-apart}
 use Rattle.p2p_log_rules.proofs.Families.{kinds_of, are_apart}
 use Rattle.p2p_log_rules.proofs.Handshakes.{is_among}
 use Rattle.p2p_log_rules.proofs.Moves.{all_end-gone}
@@ -42,9 +43,10 @@ use Rattle.p2p_net_router.specs.Stands.{RoutesNothing}
 use Rattle.p2p_net_router.proofs.Resting.{resting_after}
 use Rattle.p2p_net_router.proofs.Unrouted.{unrouted_apart}
 use Rattle.p2p_log_rules.proofs.Routing.{route_kinds}
+use Rattle.p2p_net_channels.specs.Channels.{with_end}
 use Rattle.p2p_net_channels.specs.Stands.{ChannelsStand}
 use Rattle.p2p_net_channels.specs.declared.channels.Channels.{Channels}
-use Rattle.p2p_net_channels.proofs.Changes.{channels_frame}
+use Rattle.p2p_net_channels.proofs.Changes.{channels_ended}
 use Rattle.p2p_net_tracker.specs.Heeding.{is_noted}
 use Rattle.p2p_net_tracker.specs.Stands.{TrackerStands}
 use Rattle.p2p_net_tracker.specs.Stopping.{TrackerLeft}
@@ -70,7 +72,7 @@ use Rattle.p2p_net_node.specs.Stands.{OwnStands, NodeStands, RouterLives, Router
 use Rattle.p2p_net_node.specs.declared.node.Node.{Node}
 use Rattle.p2p_net_node.proofs.Frames.{effect-act}
 use Rattle.p2p_net_node.proofs.Performing.{asked}
-use Rattle.p2p_net_node.proofs.Receivers.{admits_apart, sends_apart, closes_apart}
+use Rattle.p2p_net_node.proofs.Receivers.{admits_apart, sends_apart}
 use Rattle.p2p_net_calls.specs.Stopping.{IsBare, NodeLeft, left, StopsRunning, RouterKeeps}
 use Rattle.p2p_net_calls.proofs.StopLeft as step
 use Rattle.p2p_net_calls.proofs.Looping.{router_kept}
@@ -83,10 +85,12 @@ record Core : Type 0 where
   pub config : Config
   pub retained : ℕ
   pub failed : Bool
-  pub channels : Channels
+
+abbrev channels_of : Node → Channels
+channels_of z = z.channels
 
 abbrev core : Node → Core
-core z = record { config = z.config; retained = z.retained; failed = z.failed; channels = z.channels }
+core z = record { config = z.config; retained = z.retained; failed = z.failed }
 
 module _ (configs : List Config) (log : List Entry) (moment seed : ℕ) (by_start : Bool) (n : ℕ) (x y : Node) (l links : Links) (r : Row) (s : NodeStands configs log n x) (t : LinksStand configs log l)
     (lasts : is_stopped log n ≡ false) (bare : Each IsBare (live log)) (d : StopsRunning n x y l links r) where
@@ -222,17 +226,17 @@ module _ (configs : List Config) (log : List Entry) (moment seed : ℕ) (by_star
 
   -- ---- its channels
 
+  channels_were : d.left.channels ≡ x.channels
+  channels_were =
+      ap channels_of d.connections_rest.rest
+      ∙ (ap channels_of d.handshakes_rest.rest
+      ∙ (ap channels_of d.attempts_rest ∙ (ap channels_of d.told_rest ∙ (ap channels_of d.arrivals ∙ (ap channels_of d.messages.rest ∙ ap channels_of d.mailboxes_ended.rest)))))
+
   channels_stand : ChannelsStand configs after n y.channels
   channels_stand =
-      subst (λ (c : Core). ChannelsStand configs after n c.channels) (sym core_same)
-      (channels_frame configs log e n x.channels (s.each place.channels)
-      (record {
-        registers = ap (registers_at configs n) acts;
-        lines = channel_stays;
-        admits = admits_apart configs log e n (act.Stop by_start n) acts (λ conn. refl);
-        sends = sends_apart log e n (act.Stop by_start n) acts (refl, refl);
-        closes = closes_apart log e n (act.Stop by_start n) acts refl;
-      }))
+      subst (ChannelsStand configs after n) (sym (ap channels_of d.closed.rest ∙ ap with_end channels_were))
+      (channels_ended configs log e n x.channels (s.each place.channels) over (ap (registers_at configs n) acts) (admits_apart configs log e n (act.Stop by_start n) acts (λ conn. refl))
+      (sends_apart log e n (act.Stop by_start n) acts (refl, refl)) (λ c. is_closed-apart log e n c (ap (λ b. are_apart (kinds_of b) reader_kinds) acts)) channel_stays)
 
   -- ---- its connections
 

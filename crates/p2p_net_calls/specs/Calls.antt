@@ -1,13 +1,14 @@
 -- What each call of a node comes to, and what it makes of the node. No log: of the router's calls the log is a matter of its own.
-use Rattle.std.specs.Prelude.{◌≡◌, ℕ, ◌+◌, Bool, true, false, cond}
+use Rattle.std.specs.Prelude.{◌≡◌, ℕ, ◌+◌, Bool, true, false, slice_get}
 use Rattle.p2p_log.specs.declared.asked.Asked.{Asked}
 use Rattle.p2p_log.specs.declared.entry.Reply.TheVariants as reply
 use Rattle.p2p_log.specs.declared.event.Rate.{Rate}
 use Rattle.p2p_log_rules.specs.declared.row.Row.{Row}
-use Rattle.p2p_log_rules.specs.Effect.{only, oldest_read}
+use Rattle.p2p_log_rules.specs.Effect.{only}
 use Rattle.p2p_log_rules.specs.Listening.{quota_of}
+use Rattle.p2p_flow_connection.specs.Arriving.{arrival_waiting}
 use Rattle.p2p_net_queues.specs.Tables.{waiting}
-use Rattle.p2p_net_channels.specs.Channels.{registered_with, has_reader, read_from, closed_row, closed_with}
+use Rattle.p2p_net_channels.specs.Channels.{registered_with, has_reader, none_told, read_told, read_from, closed_row, closed_with}
 use Rattle.p2p_net_gates.specs.Dialing.{started}
 use Rattle.p2p_net_tracker.specs.Asking.{ask_answer, after_asking}
 use Rattle.p2p_net_tracker.specs.Stopping.{ask_stopped_row, after_ask_stopped}
@@ -37,7 +38,9 @@ Starts k at old new r = StartsBy old.stopped k at old new r
 -- by whether the channel has a reader, which hears where none will come
 abbrev pub ReadsOn : Bool → ℕ → Node → Node → Row → Type 0
 ReadsOn false c old new r = Stays old new r (only reply.Gone)
-ReadsOn true c old new r = (r ≡ oldest_read (cond old.stopped reply.NetworkClosed reply.Pending) (waiting old.channels.waiting c)) × (new ≡ record old { channels = read_from c old.channels })
+ReadsOn true c old new r =
+    (r ≡ read_told (none_told old.channels.inbounds.ended) (arrival_waiting old.channels.inbounds c) (slice_get (waiting old.channels.waiting c) 0))
+    × (new ≡ record old { channels = read_from c old.channels })
 
 abbrev pub Reads : ℕ → Node → Node → Row → Type 0
 Reads c old new r = ReadsOn (has_reader old.channels c) c old new r

@@ -50,6 +50,7 @@ use Rattle.p2p_net_connections.specs.declared.connections.Connections.{Connectio
 use Rattle.p2p_net_links.specs.Left.{LinksLeft, all_dropped}
 use Rattle.p2p_net_links.specs.Links.{way_of}
 use Rattle.p2p_net_links.specs.declared.links.Links.{Links}
+use Rattle.p2p_net_channels.specs.Channels.{with_end}
 use Rattle.p2p_net_node.specs.declared.node.Node.{Node}
 
 -- an item that stands in a queue of those that hold none with copies has none
@@ -290,6 +291,7 @@ pub record HasClosed (old new : Node) : Type 0 where
     tracker = record old.tracker { mailbox = emptied old.tracker.mailbox };
     dialing = record old.dialing { actor = None };
     listening = record old.listening { ends = [] };
+    channels = with_end old.channels;
     stopped = true;
   }
   pub closed : is_bound new.router.messenger.binding ≡ false

@@ -16,6 +16,7 @@ use std::alloc::AllocError;
 /// has stopped registers none.
 pub fn register(node: &mut Node, turn: Turn, channel: u64, quota: Rate) -> Result<Row, AllocError>
     requires room { node.old.stopped ≡ false → node.old.channels.total + capacity_by node.old quota < 2 ^ 64 }
+    requires places { 1 ≤ capacity_by node.old quota }
     requires rate { is_quota quota ≡ true }
     ensures does { IfOk result (λ r. Registers channel quota node.old node.new r) }
     ensures failed { OnOk result (node.new.failed ≡ node.old.failed) }
@@ -55,11 +56,8 @@ pub fn read(node: &mut Node, turn: Turn, channel: u64) -> Result<Row, AllocError
     ensures does { IfOk result (λ r. Reads channel node.old node.new r) }
     ensures failed { OnOk result (node.new.failed ≡ node.old.failed) }
 {
-    if !node.channels.has_reader(channel) {
+    if !node.channels.inbounds.is_open(channel) {
         return Ok(only(turn.alloc, Reply::Gone));
-    }
-    if node.stopped && node.channels.waiting.front_at(channel).is_none() {
-        return Ok(only(turn.alloc, Reply::NetworkClosed));
     }
     let row = node.channels.read(turn.alloc, channel)?;
     Ok(row)
@@ -70,7 +68,7 @@ pub fn close(node: &mut Node, turn: Turn, channel: u64) -> Result<Row, AllocErro
     ensures does { IfOk result (λ r. Closes channel node.old node.new r) }
     ensures failed { OnOk result (node.new.failed ≡ node.old.failed) }
 {
-    if node.channels.has_reader(channel) {
+    if node.channels.inbounds.is_open(channel) {
         Ok(node.channels.close(turn.alloc, channel)?)
     } else {
         Ok(only(turn.alloc, Reply::Gone))

@@ -111,7 +111,7 @@ pub fn send(
     ensures does { IfOk result (λ r. Sends turn.entry channel at priority bytes.now to.now node.old node.new r) }
     ensures failed { OnOk result (node.new.failed ≡ node.old.failed) }
 {
-    if node.channels.capacity(channel).is_none() {
+    if !node.channels.inbounds.is_registered(channel) {
         return Ok(only(turn.alloc, Reply::Gone));
     }
     let offered = offer(node, turn.alloc, at, channel, to)?;
@@ -184,7 +184,7 @@ pub fn check(
     ensures does { IfOk result (λ r. Checks turn.entry channel at to.now node.old node.new r) }
     ensures failed { OnOk result (node.new.failed ≡ node.old.failed) }
 {
-    if node.channels.capacity(channel).is_none() {
+    if !node.channels.inbounds.is_registered(channel) {
         return Ok(only(turn.alloc, Reply::Gone));
     }
     let offered = offer(node, turn.alloc, at, channel, to)?;
@@ -215,7 +215,7 @@ fn note_check(
     Ok(only(turn.alloc, Reply::Checked(keys)))
 }
 
-/// Sends a message to the keys that the check of this event admitted, on its channel, where none was sent to them yet.
+/// Sends a message to the keys that the check of this event admitted, on its channel, where none was asked for by it yet.
 pub fn send_checked(
     node: &mut Node,
     turn: Turn,

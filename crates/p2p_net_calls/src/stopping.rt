@@ -340,6 +340,7 @@ fn close(node: &mut Node, alloc: Global) -> Result<(), AllocError>
     node.tracker.stop(alloc)?;
     node.dialing.stop();
     node.listening.forget_ends(alloc);
+    node.channels.inbounds.end();
     node.stopped = true;
     Ok(())
 }

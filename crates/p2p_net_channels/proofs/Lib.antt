@@ -2,6 +2,7 @@ mod Admitted
 pub mod Changes
 pub mod Checks
 pub mod Closing
+pub mod Mailboxes
 pub mod Metering
 pub mod Quotas
 pub mod Readers

@@ -4,6 +4,8 @@ use Rattle.std.specs.Prelude.{◌==◌, ◌&&◌}
 use Rattle.std.specs.Option.{option_map}
 use Rattle.std.specs.Ordering.{nat_cmp}
 use Rattle.p2p_runtime.specs.QuotaKeys.{KeptByKey}
+use Rattle.p2p_base.specs.declared.key.Key.{Key}
+use Rattle.p2p_flow_connection.specs.Arriving.{Arrived as Mailboxes}
 use Rattle.p2p_log.specs.declared.config.Config.{Config}
 use Rattle.p2p_log.specs.declared.event.Rate.{Rate}
 use Rattle.p2p_log.specs.declared.queue.Queue.TheVariants as queue
@@ -20,6 +22,7 @@ use Rattle.p2p_net_channels.specs.Channels.{may_admit, metered}
 use Rattle.p2p_net_channels.specs.Stands.{QuotaStands, SendsNone, ClosesNone, ChannelsStand}
 use Rattle.p2p_net_channels.specs.declared.channels.Channels.{Channels}
 use Rattle.p2p_net_channels.proofs.Checks.{checks_kept}
+use Rattle.p2p_net_channels.proofs.Mailboxes.{MailboxesMove}
 use Rattle.p2p_net_channels.proofs.Changes.{channels-kept}
 use Rattle.p2p_net_channels.proofs.Quotas.{quota_stays, rates-kept, same_rates}
 use Rattle.p2p_net_channels.proofs.Readers.{closed_stay}
@@ -64,17 +67,19 @@ module _ (configs : List Config) (log : List Entry) (e : Entry) (n c conn now : 
 
 -- the quota of a channel was asked for a message of a connection, which it admitted where it may, and these messages wait
 pub channels_metered :
-    (configs : List Config) (log : List Entry) (e : Entry) (n c conn now : ℕ) (ch : Channels) (w : List (ℕ × List Envelope)) → ChannelsStand configs log n ch → registers_at configs n e.event.act ≡ []
+    (configs : List Config) (log : List Entry) (e : Entry) (n c conn now : ℕ) (ch : Channels) (a : Mailboxes Key) (w : List (ℕ × List Envelope)) → ChannelsStand configs log n ch → MailboxesMove ch a w → a.ended ≡ ch.inbounds.ended → registers_at configs n e.event.act ≡ []
     → latest_moment (events_of log) ≤ now → e.event.at ≡ now
     → ((d q : ℕ) → admitted_by (limit_at configs n) n d (messages q) log e ≡ cond ((q == c) && ((d == conn) && may_admit ch c conn now)) (now ∷ []) [])
-    → SendsNone log e n → ClosesNone log e n → HoldsLines (queue.Channel n) (log ++ e ∷ []) w → ChannelsStand configs (log ++ e ∷ []) n (record (metered c conn now ch) { waiting = w })
-channels_metered configs log e n c conn now ch w s none late is_then adds sends closes waits = record {
-  capacities = λ q. s.capacities q ∙ ap (λ l. capacity_in l q) (sym (channels-kept configs log e n none));
+    → SendsNone log e n → ClosesNone log e n → HoldsLines (queue.Channel n) (log ++ e ∷ []) w → ChannelsStand configs (log ++ e ∷ []) n (record (metered c conn now ch) { inbounds = a; waiting = w })
+channels_metered configs log e n c conn now ch a w s moves same none late is_then adds sends closes waits = record {
+  capacities = λ q. moves.capacities q ∙ (s.capacities q ∙ ap (λ l. capacity_in l q) (sym (channels-kept configs log e n none)));
   total = s.total ∙ ap sum_capacities (sym (channels-kept configs log e n none));
   room = s.room;
   waits = waits;
+  named = moves.named;
   quotas = λ q. same_rates configs log e n q (at (checked_at nat_cmp ch.quotas c conn now) q) (rates-kept configs log e n none) (quotas_checked configs log e n c conn now late is_then ch s.quotas adds q);
   senders = senders_stay configs log e n ch.senders s.senders (rates-kept configs log e n none) sends;
   checks = checks_kept log e n ch.checks s.checks sends.checks;
-  closed = closed_stay log e n ch s.closed closes;
+  closed = λ q. moves.closed q ∙ closed_stay log e n ch s.closed closes.readers q;
+  ended = same ∙ (s.ended ∙ sym closes.goes_on);
 }

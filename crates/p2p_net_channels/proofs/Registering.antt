@@ -2,7 +2,7 @@
 use Rattle.std.proofs.Common.{◌≡◌, ℕ, ◌+◌, ◌^◌, ◌<◌, Bool, true, false, cond, List, [], ◌∷◌, ◌++◌, refl, ap, sym, subst, ◌∙◌, arith, eqb-true, Option, Some, None}
 use Rattle.std.specs.Prelude.{map, slice_get, ◌==◌, is_some}
 use Rattle.std.specs.Map.{lookup}
-use Rattle.std.specs.BTreeMap.{is_at, insert_entry}
+use Rattle.std.specs.BTreeMap.{insert_entry}
 use Rattle.std.specs.Ordering.{nat_cmp}
 use Rattle.std.proofs.lemmas.Bool.Decides.{nat_tests}
 use Rattle.p2p_log.specs.declared.config.Config.{Config}
@@ -11,24 +11,25 @@ use Rattle.p2p_log.specs.declared.event.Rate.{Rate}
 use Rattle.p2p_log.specs.declared.event.Act.TheVariants as act
 use Rattle.p2p_log.specs.declared.entry.Entry.{Entry}
 use Rattle.p2p_log.specs.Lines.{line}
-use Rattle.p2p_log_rules.specs.Facts.{is_stopped, registers_at, capacity_for, with_capacity, channels, capacity_in, rates_by, rates, rate_in, sum_capacities}
+use Rattle.p2p_log_rules.specs.Facts.{is_stopped, stops, registers_at, capacity_for, with_capacity, channels, capacity_in, rates_by, rates, rate_in, sum_capacities}
 use Rattle.p2p_log_rules.specs.Admitting.{rate_at, sent_moments}
 use Rattle.p2p_log_rules.specs.Listening.{quota_of}
 use Rattle.p2p_log_rules.specs.Tracking.{key_cmp}
 use Rattle.p2p_log_rules.specs.Metering.{messages, admitted}
 use Rattle.p2p_log_rules.specs.Effect.{mailbox_size_at}
-use Rattle.p2p_log_rules.proofs.Channels.{rates-append}
+use Rattle.p2p_log_rules.proofs.Channels.{rates-append, is_stopped-kept}
 use Rattle.p2p_log_rules.proofs.Closing.{reader_kinds, is_closed-apart}
 use Rattle.p2p_log_rules.proofs.Families.{kinds_of, are_apart}
 use Rattle.p2p_runtime.specs.QuotaStep.{IsQuota}
 use Rattle.p2p_net_queues.specs.Meters.{fresh}
 use Rattle.p2p_net_queues.specs.Tables.{at}
 use Rattle.p2p_net_queues.proofs.Meters.{admitted-kept, meters_new}
-use Rattle.p2p_net_queues.proofs.Tables.{lookup-insert_entry, at-inserted}
+use Rattle.p2p_net_queues.proofs.Tables.{at-inserted}
 use Rattle.p2p_net_channels.specs.Channels.{capacity_at, registered_with}
 use Rattle.p2p_net_channels.specs.Stands.{QuotaStands, SenderStands, AdmitsNone, SendsNone, ChannelsStand}
 use Rattle.p2p_net_channels.specs.declared.channels.Channels.{Channels}
 use Rattle.p2p_net_channels.proofs.Checks.{checks_kept}
+use Rattle.p2p_net_channels.proofs.Mailboxes.{named_registered, places-registered, closed-registered}
 use Rattle.p2p_net_channels.proofs.Changes.{channels-append}
 use Rattle.p2p_net_channels.proofs.Quotas.{same_known, admitted_none, quota_stays}
 use Rattle.p2p_net_channels.proofs.Readers.{closed_stay}
@@ -57,18 +58,16 @@ pub sum_capacities-last : (xs : List (ℕ × ℕ)) (c k : ℕ) → sum_capacitie
 sum_capacities-last [] c k = omega arith
 sum_capacities-last (x ∷ xs) c k = let ih = sum_capacities-last xs c k in omega arith
 
-same_key : (c d : ℕ) → is_at (nat_cmp d) c ≡ (d == c)
-same_key c d = grind (arith, nat_tests)
+-- what is known of one channel more is the list with that channel last
+known_last : (old : ℕ → Option ℕ) (xs : List (ℕ × ℕ)) (c k d : ℕ) → ((j : ℕ) → old j ≡ capacity_in xs j) → old c ≡ None → cond (d == c) (Some k) (old d) ≡ capacity_in (xs ++ (c, k) ∷ []) d
+known_last old xs c k d same absent =
+    new_capacity old c k d (d == c) refl absent ∙ (ap (λ o. elim o [ None ↦ cond (d == c) (Some k) None | Some v ↦ Some v ]) (same d) ∙ sym (lookup-last xs c k d))
 
--- a table of capacities with one channel more is the list with that channel last
+-- so is a table of capacities with it
 pub capacity-last :
     (m xs : List (ℕ × ℕ)) (c k d : ℕ) → ((j : ℕ) → at m j ≡ capacity_in xs j) → at m c ≡ None
     → at (insert_entry nat_cmp m c k) d ≡ capacity_in (xs ++ (c, k) ∷ []) d
-capacity-last m xs c k d same absent =
-    lookup-insert_entry c d k m
-    ∙ (ap (λ b. cond b (Some k) (at m d)) (same_key c d)
-    ∙ (new_capacity (at m) c k d (d == c) refl absent
-    ∙ (ap (λ o. elim o [ None ↦ cond (d == c) (Some k) None | Some v ↦ Some v ]) (same d) ∙ sym (lookup-last xs c k d))))
+capacity-last m xs c k d same absent = at-inserted c d k m ∙ known_last (at m) xs c k d same absent
 
 same_number : (n : ℕ) → (n == n) ≡ true
 same_number n = grind (arith, nat_tests)
@@ -125,10 +124,11 @@ channels_registered configs log e n c k rate ch s runs is amount absent room lin
     in
     let more : channels configs (log ++ e ∷ []) n ≡ channels configs log n ++ (c, k) ∷ [] = channels-append configs log e n runs ∙ ap (λ l. channels configs log n ++ l) here in
     record {
-      capacities = λ d. capacity-last ch.capacities (channels configs log n) c k d s.capacities absent ∙ ap (λ l. capacity_in l d) (sym more);
+      capacities = λ d. places-registered ch.inbounds c k d ∙ (known_last (capacity_at ch) (channels configs log n) c k d s.capacities absent ∙ ap (λ l. capacity_in l d) (sym more));
       total = ap (λ t. t + k) s.total ∙ (sym (sum_capacities-last (channels configs log n) c k) ∙ ap sum_capacities (sym more));
       room = room;
       waits = λ d. s.waits d ∙ sym (lines d);
+      named = named_registered ch.inbounds c k ch.waiting absent s.named;
       quotas = λ d.
           subst (λ r. QuotaStands configs (log ++ e ∷ []) n d r (at (insert_entry nat_cmp ch.quotas c (fresh (quota_of rate))) d)) (sym (known d))
           (subst (λ o. QuotaStands configs (log ++ e ∷ []) n d (elim (rate_in (rates log n) d) [ None ↦ cond (d == c) (Some rate) None | Some v ↦ Some v ]) o) (sym (at-inserted c d (fresh (quota_of rate)) ch.quotas))
@@ -138,7 +138,8 @@ channels_registered configs log e n c k rate ch s runs is amount absent room lin
           (subst (λ o. SenderStands (log ++ e ∷ []) n d (elim (rate_at log n d) [ None ↦ cond (d == c) (Some rate) None | Some v ↦ Some v ]) o) (sym (at-inserted c d (fresh (quota_of rate)) ch.senders))
           (new_sender configs log e n c rate ch s.senders (no_rate_yet (s.capacities c)) is_quota sends d (d == c) refl (rate_at log n d) refl));
       checks = checks_kept log e n ch.checks s.checks sends.checks;
-      closed = closed_stay log e n ch s.closed (λ d. is_closed-apart log e n d (ap (λ a. are_apart (kinds_of a) reader_kinds) is));
+      closed = λ f. closed-registered ch.inbounds c k f absent ∙ closed_stay log e n ch s.closed (λ d. is_closed-apart log e n d (ap (λ a. are_apart (kinds_of a) reader_kinds) is)) f;
+      ended = s.ended ∙ sym (is_stopped-kept log e n (ap (stops n) is));
     }
   where
     known : (d : ℕ) → rate_at (log ++ e ∷ []) n d ≡ elim (rate_at log n d) [ None ↦ cond (d == c) (Some rate) None | Some v ↦ Some v ]

@@ -207,10 +207,12 @@ module _
       total = s.total ∙ ap sum_capacities (sym (channels-kept configs log e n none));
       room = s.room;
       waits = holds_frame (queue.Channel n) log e ch.waiting s.waits lines;
+      named = s.named;
       quotas = λ d. same_rates configs log e n d (at ch.quotas d) (rates-kept configs log e n none) (quota_stays configs log e n d (rate_at log n d) (at ch.quotas d) (s.quotas d) (λ conn. admits_none conn d));
       senders = λ d. same_sender_rates configs log e n d (at senders d) (rates-kept configs log e n none) (stands d);
       checks = checks;
-      closed = closed_stay log e n ch s.closed closes_none;
+      closed = closed_stay log e n ch s.closed closes_none.readers;
+      ended = s.ended ∙ sym closes_none.goes_on;
     }
 
     -- the quota of a channel was asked for each key of those that a message is offered to

@@ -1,31 +1,33 @@
 //! `Channels`, the channels of a node and what waits in them.
-ghost use Rattle.std.specs.Prelude.{◌≡◌, ◌+◌, ◌<◌, ◌^◌, ◌++◌, ◌∷◌, [], false, max, length, slice_get, Option, Some, None, IfOk, OnOk, if◌then◌else◌};
+ghost use Rattle.std.specs.Prelude.{◌≡◌, ◌+◌, ◌≤◌, ◌<◌, ◌^◌, ◌++◌, ◌∷◌, [], false, max, length, slice_get, Option, Some, None, IfOk, OnOk, if◌then◌else◌};
 ghost use Rattle.std.specs.BTreeMap.{insert_entry};
 ghost use Rattle.std.specs.Ordering.{nat_cmp};
-ghost use Rattle.p2p_log_rules.specs.Effect.{oldest_read, read_row as read_row_of};
-ghost use Rattle.p2p_log.specs.Lines.{name_of};
 ghost use Rattle.p2p_net_queues.specs.Tables.{at, AreBut, waiting};
 ghost use Rattle.p2p_net_channels.specs.Arrivals.{delivered};
-ghost use Rattle.p2p_net_channels.specs.Channels.{no_channels, capacity_at, registered_with, may_admit, metered, is_full as full_test, has_reader, refusal, delivered_to, is_message as message_test, has_message_first, message_first, read_from, closed_row, closed_with};
+ghost use Rattle.p2p_net_channels.specs.Channels.{no_channels, registered_with, may_admit, metered, refusal_told, refusal, enqueued_in, delivered_to, told_row, none_told, read_told, read_from, closed_row, closed_with};
+ghost use Rattle.p2p_flow_connection.specs.Arriving.{arrival_waiting};
 ghost use Rattle.p2p_net_channels.specs.Senders.{may_send, key_retry, key_metered, keys_passed, retry_told, keys_metered};
 
 use crate::arrival::Arrived;
 use crate::offer::Offer;
-use p2p_base::{Key, List};
+use bytes::Bytes;
+use p2p_base::{Key, List, NoRoom, Sent};
+use p2p_flow::Message;
+use p2p_flow_connection::Inbounds;
 use p2p_log::{Cause, End, Envelope, Item, Outcome, Queue, Reply};
 use p2p_log_rules::{Checked, Row};
 use p2p_net_queues::{Deque, Table, Turn, drop_items, only, taking};
 use p2p_runtime::{KeyedRateLimiter, Quota};
 use std::alloc::{AllocError, Global};
 
-/// The registered channels of a node, what each admits of each connection and to each key, the messages that wait in each for its
-/// reader, which readers were dropped, and what the node's checks admitted.
+/// The registered channels of a node: the mailboxes in which messages wait for their readers, by what names these stand there, what
+/// each channel admits of each connection and to each key, and what the node's checks admitted.
 pub struct Channels {
-    /// How many messages each channel holds at most.
-    pub capacities: Table<usize>,
-    /// The sum of these.
+    /// The mailboxes.
+    pub inbounds: Inbounds<Key>,
+    /// How many messages they hold at most, all together.
     pub total: usize,
-    /// The messages of each channel, the oldest first.
+    /// The messages of each mailbox as the items that the log has of them, the oldest first.
     pub waiting: Table<Deque<Envelope>>,
     /// The quota of each channel, on each connection, by the names of connections.
     pub quotas: Table<KeyedRateLimiter<u64>>,
@@ -33,58 +35,59 @@ pub struct Channels {
     pub senders: Table<KeyedRateLimiter<Key>>,
     /// What each check admitted that waits for its message, under the number of the check's event.
     pub checks: Table<Checked>,
-    /// The channels whose reader was dropped.
-    pub closed: Table<()>,
 }
 
 impl Drop for Channels {
     fn drop(self) {
         let Channels {
-            capacities: _capacities,
+            inbounds: _inbounds,
             total: _total,
             waiting: _waiting,
             quotas: _quotas,
             senders: _senders,
             checks: _checks,
-            closed: _closed,
         } = self;
     }
 }
 
-/// Whether an item is a message for a reader.
-fn is_message(item: &Item) -> bool
-    ensures { result ≡ message_test item.now }
+/// Why a mailbox did not take a message, where it did not.
+fn refusal_told(answer: Sent<Message<Key>>) -> Option<Cause>
+    ensures { result ≡ refusal_told answer }
 {
-    match item {
-        Item::Message { .. } => true,
-        _ => false,
+    match answer {
+        Sent::Ok | Sent::Backoff => None,
+        Sent::Rejected(_) => Some(Cause::MailboxFull),
+        Sent::Closed(_) => Some(Cause::ReceiverClosed),
     }
 }
 
-/// The row of a reader that took this item.
-fn read_row(alloc: Global, name: (u64, u64), item: Item) -> Result<Row, AllocError>
-    ensures { IfOk result (λ r. r ≡ read_row_of name item) }
+/// What a reader is told where no message waits, by whether its node has stopped.
+fn none_told(stopped: bool) -> Reply
+    ensures { result ≡ none_told stopped }
 {
-    match item {
-        Item::Message { bytes, copy, from } => {
+    if stopped {
+        Reply::NetworkClosed
+    } else {
+        Reply::Pending
+    }
+}
+
+/// The row of a reader that took this message out of its mailbox, where it stood as this item.
+fn told_row(alloc: Global, message: Message<Key>, named: Envelope) -> Result<Row, AllocError>
+    ensures { IfOk result (λ r. r ≡ told_row message named) }
+{
+    let name = (named.entry, named.place);
+    match named.item {
+        Item::Message { copy, .. } => {
             let mut row = taking(alloc, name)?;
             row.ends
                 .push(End::Copy(copy.0, copy.1, Outcome::Delivered))?;
+            let (from, bytes) = message;
             row.reply = Reply::Message { bytes, from };
             Ok(row)
         }
         _other => Ok(only(alloc, Reply::Pending)),
     }
-}
-
-/// The copy of a message ends, since this keeps it out of its channel.
-fn drop_message(row: &mut Row, arrived: &Arrived, why: Cause) -> Result<(), AllocError>
-    ensures { OnOk result (row.new ≡ record row.old { ends = row.old.ends ++ End.Copy arrived.now.copy.0 arrived.now.copy.1 (Outcome.Dropped why) ∷ [] }) }
-{
-    let dropped = Outcome::Dropped(why);
-    row.ends
-        .push(End::Copy(arrived.copy.0, arrived.copy.1, dropped))?;
-    Ok(())
 }
 
 impl Channels {
@@ -93,28 +96,13 @@ impl Channels {
         ensures { result ≡ no_channels }
     {
         Channels {
-            capacities: Table::new(alloc),
+            inbounds: Inbounds::new(alloc),
             total: 0,
             waiting: Table::new(alloc),
             quotas: Table::new(alloc),
             senders: Table::new(alloc),
             checks: Table::new(alloc),
-            closed: Table::new(alloc),
         }
-    }
-
-    /// How many messages a channel holds at most, where it is registered.
-    pub fn capacity(&self, channel: u64) -> Option<usize>
-        ensures { result ≡ capacity_at self.now channel }
-    {
-        self.capacities.get(channel)
-    }
-
-    /// Whether a channel has a reader: it is registered, and its reader was not dropped.
-    pub fn has_reader(&self, channel: u64) -> bool
-        ensures { result ≡ has_reader self.now channel }
-    {
-        self.capacities.has(channel) && !self.closed.has(channel)
     }
 
     /// Registers a channel of this capacity, which admits so much of each connection and to each key.
@@ -127,10 +115,11 @@ impl Channels {
         capacity: usize,
         quota: Quota,
     ) -> Result<(), AllocError>
-        requires { self.old.total + capacity < 2 ^ 64 }
+        requires room { self.old.total + capacity < 2 ^ 64 }
+        requires places { 1 ≤ capacity }
         ensures { OnOk result (self.new ≡ registered_with self.old channel capacity quota) }
     {
-        self.capacities.insert(channel, capacity)?;
+        self.inbounds.register(alloc, channel, capacity)?;
         self.total += capacity;
         self.quotas
             .insert(channel, KeyedRateLimiter::new(alloc, quota))?;
@@ -201,7 +190,7 @@ impl Channels {
         Ok(())
     }
 
-    /// Takes what the check of this event admitted, where no message was sent to these yet. What the other checks admitted stays.
+    /// Takes what the check of this event admitted, where no message was asked for by it yet. What the other checks admitted stays.
     pub fn spend(&mut self, check: u64) -> Option<Checked>
         ensures admitted { result ≡ at self.old.checks check }
         ensures checks { AreBut check None self.old.checks self.new.checks }
@@ -210,104 +199,73 @@ impl Channels {
         self.checks.remove(check)
     }
 
-    /// Whether a channel holds so many messages.
-    fn is_full(&self, capacity: usize, channel: u64) -> bool
-        ensures { result ≡ full_test self.now capacity channel }
+    /// Puts a message in the mailbox of its channel. Answers why that did not take it, where it did not.
+    fn enqueue(
+        &mut self,
+        channel: u64,
+        from: Key,
+        bytes: Bytes,
+    ) -> Result<Option<Cause>, AllocError>
+        ensures refusal { IfOk result (λ why. why ≡ refusal self.old channel) }
+        ensures after { OnOk result (self.new ≡ enqueued_in channel from bytes self.old) }
     {
-        self.waiting.len_at(channel) >= capacity
+        match self.inbounds.put(channel, (from, bytes)) {
+            Ok(answer) => Ok(refusal_told(answer)),
+            Err(NoRoom(_)) => Err(AllocError),
+        }
     }
 
-    /// Why a message does not enter a channel that holds at most `capacity`, where it does not.
-    fn refusal(&self, capacity: usize, channel: u64) -> Option<Cause>
-        ensures { result ≡ refusal self.now capacity channel }
-    {
-        if self.closed.has(channel) {
-            return Some(Cause::ReceiverClosed);
-        }
-        if self.is_full(capacity, channel) {
-            return Some(Cause::MailboxFull);
-        }
-        None
-    }
-
-    /// Puts a message last in its channel.
-    fn keep(
+    /// Puts a message that arrived last in the mailbox of its channel, or ends its copy where that does not take it.
+    ///
+    /// `Err` only where there is no memory. The message may then stand in its mailbox and not in the row, and its node goes no
+    /// further.
+    pub fn deliver(
         &mut self,
         turn: Turn,
         row: &mut Row,
         from: Key,
         arrived: Arrived,
     ) -> Result<(), AllocError>
-        ensures row { OnOk result (row.new ≡ delivered None turn.node from arrived row.old) }
-        ensures after { OnOk result (self.new ≡ delivered_to None turn.entry (length row.old.puts) turn.node from arrived self.old) }
+        ensures row { OnOk result (row.new ≡ delivered (refusal self.old arrived.channel) turn.node from arrived row.old) }
+        ensures after { OnOk result (self.new ≡ delivered_to turn.entry (length row.old.puts) turn.node from arrived self.old) }
     {
         let Arrived {
             copy,
             channel,
             bytes,
         } = arrived;
-        let queue = Queue::Channel {
-            node: turn.node,
-            channel,
-        };
-        let item = Item::Message { bytes, copy, from };
-        self.waiting.put(turn, row, channel, queue, item)?;
+        match self.enqueue(channel, from, bytes.clone()?)? {
+            Some(why) => {
+                row.ends
+                    .push(End::Copy(copy.0, copy.1, Outcome::Dropped(why)))?;
+            }
+            None => {
+                let queue = Queue::Channel {
+                    node: turn.node,
+                    channel,
+                };
+                let item = Item::Message { bytes, copy, from };
+                self.waiting.put(turn, row, channel, queue, item)?;
+            }
+        }
         Ok(())
     }
 
-    /// Puts a message that arrived last in its channel, which holds at most `capacity`, or ends its copy where the reader was
-    /// dropped, or else where the channel holds so many.
-    ///
-    /// `Err` only where there is no memory. The message may then stand in its channel and not in the row, and its node goes no
-    /// further.
-    pub fn deliver(
-        &mut self,
-        turn: Turn,
-        row: &mut Row,
-        capacity: usize,
-        from: Key,
-        arrived: Arrived,
-    ) -> Result<(), AllocError>
-        ensures row { OnOk result (row.new ≡ delivered (refusal self.old capacity arrived.channel) turn.node from arrived row.old) }
-        ensures after { OnOk result (self.new ≡ delivered_to (refusal self.old capacity arrived.channel) turn.entry (length row.old.puts) turn.node from arrived self.old) }
-    {
-        match self.refusal(capacity, arrived.channel) {
-            Some(why) => drop_message(row, &arrived, why),
-            None => self.keep(turn, row, from, arrived),
-        }
-    }
-
-    /// Whether the oldest item of a channel is a message.
-    fn has_message(&self, channel: u64) -> bool
-        ensures { result ≡ has_message_first (slice_get (waiting self.now.waiting channel) 0) }
-    {
-        match self.waiting.front_at(channel) {
-            Some(first) => is_message(&first.item),
-            None => false,
-        }
-    }
-
-    /// Takes the oldest message of a channel.
-    pub fn take(&mut self, channel: u64) -> Option<Envelope>
-        ensures message { result ≡ message_first (slice_get (waiting self.old.waiting channel) 0) }
-        ensures after { self.new ≡ read_from channel self.old }
-    {
-        if !self.has_message(channel) {
-            return None;
-        }
-        self.waiting.pop_at(channel)
-    }
-
-    /// Takes the oldest message of a channel for its reader.
+    /// Takes the oldest message out of the mailbox of a channel for its reader. Where none waits there, none comes any more once the
+    /// node has stopped.
     ///
     /// `Err` only where there is no memory. The message may then be taken and told to nobody, and its node goes no further.
     pub fn read(&mut self, alloc: Global, channel: u64) -> Result<Row, AllocError>
-        ensures row { IfOk result (λ r. r ≡ oldest_read Reply.Pending (waiting self.old.waiting channel)) }
+        ensures row { IfOk result (λ r. r ≡ read_told (none_told self.old.inbounds.ended) (arrival_waiting self.old.inbounds channel) (slice_get (waiting self.old.waiting channel) 0)) }
         ensures after { OnOk result (self.new ≡ read_from channel self.old) }
     {
-        match self.take(channel) {
-            None => Ok(only(alloc, Reply::Pending)),
-            Some(taken) => Ok(read_row(alloc, (taken.entry, taken.place), taken.item)?),
+        let none = none_told(self.inbounds.has_ended());
+        let Some(message) = self.inbounds.take(channel) else {
+            return Ok(only(alloc, none));
+        };
+        match self.waiting.pop_at(channel) {
+            Some(named) => Ok(told_row(alloc, message, named)?),
+            None => Ok(only(alloc, none)),
         }
     }
 
@@ -318,7 +276,7 @@ impl Channels {
         ensures row { IfOk result (λ r. r ≡ closed_row (waiting self.old.waiting channel)) }
         ensures after { OnOk result (self.new ≡ closed_with channel self.old) }
     {
-        self.closed.insert(channel, ())?;
+        self.inbounds.close(channel);
         let left = self.waiting.take_all_at(alloc, channel);
         let mut row = only(alloc, Reply::Ok);
         drop_items(&mut row, left, Cause::ReceiverClosed)?;

@@ -40,13 +40,14 @@ use Rattle.p2p_net_channels.specs.declared.arrival.Arrived.{Arrived}
 use Rattle.p2p_net_channels.specs.declared.arrival.Arriving.{Arriving}
 use Rattle.p2p_net_channels.specs.declared.arrival.Arriving.TheVariants as arriving
 use Rattle.p2p_net_channels.specs.Arrivals.{arrival_of, arrival_in, held_arrival, held_item, delivered}
-use Rattle.p2p_net_channels.specs.Channels.{capacity_at, is_closed, may_admit}
+use Rattle.p2p_net_channels.specs.Channels.{capacity_at, may_admit}
 use Rattle.p2p_net_channels.specs.Stands.{ChannelsStand}
 use Rattle.p2p_net_channels.proofs.Quotas.{may_admit_is}
+use Rattle.p2p_net_channels.proofs.Readers.{refusal_is}
 use Rattle.p2p_net_connections.specs.Stands.{ConnectionsStand}
 use Rattle.p2p_net_connections.proofs.Receiving.{may_ping_is}
 use Rattle.p2p_net_node.specs.Places as place
-use Rattle.p2p_net_connecting.specs.Receiving.{verdict_by, verdict, message_row, passed_row}
+use Rattle.p2p_net_connecting.specs.Receiving.{verdict_by, verdict, passed_row}
 use Rattle.p2p_net_node.specs.Stands.{NodeStands}
 use Rattle.p2p_net_node.specs.declared.node.Node.{Node}
 
@@ -139,11 +140,8 @@ module _ (configs : List Config) (log : List Entry) (n conn at : ℕ) (x : Node)
   delivers : (m : Arrived) (capacity : ℕ) → capacity_at x.channels m.channel ≡ Some capacity
       → deliver_row log n (name_of f) half.peer m.copy (m.channel, m.bytes) capacity ≡ passed_row n half.peer (name_of f) (arriving.Message m) x.channels
   delivers m capacity has =
-      let full = nat_le capacity (length (line log (queue.Channel n m.channel))) in
-      deliver_by (refused_by (closing.is_closed log n m.channel) full) m
-      ∙ (ap (λ b. delivered (refused_by b full) n half.peer m (taken_row (name_of f))) (sym (chan.closed m.channel))
-      ∙ (ap (λ (w : List Envelope). delivered (refused_by (is_closed x.channels m.channel) (nat_le capacity (length w))) n half.peer m (taken_row (name_of f))) (sym (chan.waits m.channel))
-      ∙ ap (λ (o : Option ℕ). message_row o n half.peer (name_of f) m x.channels) (sym has)))
+      deliver_by (refused_by (closing.is_closed log n m.channel) (nat_le capacity (length (line log (queue.Channel n m.channel))))) m
+      ∙ ap (λ why. delivered why n half.peer m (taken_row (name_of f))) (refusal_is configs log n m.channel capacity x.channels chan has)
 
   settle : (was_held b : Bool) (a : Arriving) (passes : Row) → passes ≡ passed_row n half.peer (name_of f) a x.channels → cond b passes (kept_row was_held a) ≡ settled_row was_held (Some b) a
   settle was_held true a passes h = h

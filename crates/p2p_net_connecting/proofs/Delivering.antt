@@ -35,13 +35,15 @@ use Rattle.p2p_net_queues.specs.Lines.{HoldsLines}
 use Rattle.p2p_net_queues.specs.Rows.{taken_row}
 use Rattle.p2p_net_queues.specs.Tables.{pushed_at, popped_at}
 use Rattle.p2p_net_queues.proofs.Holding.{TakesFirst, holds_frame}
+use Rattle.p2p_flow_connection.specs.Arriving.{with_arrival}
 use Rattle.p2p_net_channels.specs.declared.arrival.Arrived.{Arrived}
 use Rattle.p2p_net_channels.specs.declared.arrival.Arriving.{Arriving}
 use Rattle.p2p_net_channels.specs.declared.arrival.Arriving.TheVariants as arriving
 use Rattle.p2p_net_channels.specs.declared.channels.Channels.{Channels}
 use Rattle.p2p_net_channels.specs.Arrivals.{arrival_in, held_arrival, held_item, delivered}
-use Rattle.p2p_net_channels.specs.Channels.{capacity_at, refusal, message_put, delivered_to, may_admit, metered}
+use Rattle.p2p_net_channels.specs.Channels.{capacity_at, refusal, message_put, named_with, delivered_to, may_admit, metered}
 use Rattle.p2p_net_channels.specs.Stands.{ChannelsStand, SendsNone, ClosesNone}
+use Rattle.p2p_net_channels.proofs.Mailboxes.{mailboxes_stay, mailboxes_given}
 use Rattle.p2p_net_connections.specs.Connections.{may_ping, ping_metered}
 use Rattle.p2p_net_connections.specs.Stands.{ConnectionsStand, BeginsNone, SpawnsNone}
 use Rattle.p2p_net_connections.specs.declared.connections.Connections.{Connections}
@@ -52,7 +54,7 @@ use Rattle.p2p_net_links.proofs.Changes.{openings_unmoved, links_taken, links_fr
 use Rattle.p2p_net_tracker.specs.Stands.{TrackerStands}
 use Rattle.p2p_net_connecting.specs.Ending.{EndsRefused}
 use Rattle.p2p_net_node.specs.Places as place
-use Rattle.p2p_net_connecting.specs.Receiving.{named_as, verdict_by, metered_on, asked_of, message_row, passed_row, message_into, passed_into, held_into, without_first, unheld, TakesAs, ReadsFrame, RetriesAs, RetriesBy}
+use Rattle.p2p_net_connecting.specs.Receiving.{named_as, verdict_by, metered_on, asked_of, passed_row, passed_into, held_into, without_first, unheld, TakesAs, ReadsFrame, RetriesAs, RetriesBy}
 use Rattle.p2p_net_node.specs.Stands.{NodeStands, RouterLives}
 use Rattle.p2p_net_node.specs.declared.node.Node.{Node}
 use Rattle.p2p_net_connecting.proofs.Arriving.{IsRead, frame_read, held_read, settled_row, came_row, frame_settles, held_settles}
@@ -138,7 +140,7 @@ module _ (configs : List Config) (log : List Entry) (at seed conn n : ℕ) (half
   sends_none due = sends_apart log (made due) n (act.RecvStep conn n) refl (refl, refl)
 
   closes_none : (due : Row) → ClosesNone log (made due) n
-  closes_none due = closes_apart log (made due) n (act.RecvStep conn n) refl refl
+  closes_none due = closes_apart log (made due) n (act.RecvStep conn n) refl refl refl
 
   -- ---- what its quota admits
 
@@ -170,24 +172,30 @@ module _ (configs : List Config) (log : List Entry) (at seed conn n : ℕ) (half
 
   -- ---- the parts after a message, or a ping
 
-  -- the channels once a message was delivered
-  passed_channels : (p : Queue) (f : Envelope) (fs : List Envelope) (why : Option Cause) (from : Key) (m : Arrived) → Takes log (made (delivered why n from m (taken_row (name_of f)))) (limit_at configs n) p f fs (messages m.channel)
-      → ((q : ℕ) → same_queue p (queue.Channel n q) ≡ false) → may_admit x.channels m.channel conn at ≡ true
-      → ChannelsStand configs (log ++ made (delivered why n from m (taken_row (name_of f))) ∷ []) n (delivered_to why (length log) 0 n from m (metered m.channel conn at x.channels))
-  passed_channels p f fs (Some why) from m h apart says =
-      let due = delivered (Some why) n from m (taken_row (name_of f)) in
-      message_channels configs log n conn at (made due) late x.channels chan refl (sends_none due) (closes_none due) m.channel x.channels.waiting (messages_admitted due refl p f fs m true h refl says) refl
-      (delivered_waits configs log n conn at (made due) late x.channels chan refl (sends_none due) (closes_none due) p f fs (Some why) from m (takes_first log (made due) (limit_at configs n) p f fs (messages m.channel) h) apart refl)
-  passed_channels p f fs None from m h apart says =
-      let due = delivered None n from m (taken_row (name_of f)) in
-      message_channels configs log n conn at (made due) late x.channels chan refl (sends_none due) (closes_none due) m.channel (pushed_at x.channels.waiting m.channel (message_put (length log) 0 n from m)) (messages_admitted due refl p f fs m true h refl says) refl
-      (delivered_waits configs log n conn at (made due) late x.channels chan refl (sends_none due) (closes_none due) p f fs None from m (takes_first log (made due) (limit_at configs n) p f fs (messages m.channel) h) apart refl)
+  -- the row of a message that its quota admits
+  abbrev passed : Key → Envelope → Arrived → Row
+  passed from f m = delivered (refusal x.channels m.channel) n from m (taken_row (name_of f))
+
+  -- the channels once it was delivered
+  abbrev with_passed : Key → Arrived → Channels
+  with_passed from m = delivered_to (length log) 0 n from m (metered m.channel conn at x.channels)
+
+  passed_channels : (p : Queue) (f : Envelope) (fs : List Envelope) (from : Key) (m : Arrived) → Takes log (made (passed from f m)) (limit_at configs n) p f fs (messages m.channel)
+      → ((q : ℕ) → same_queue p (queue.Channel n q) ≡ false) → may_admit x.channels m.channel conn at ≡ true → ChannelsStand configs (log ++ made (passed from f m) ∷ []) n (with_passed from m)
+  passed_channels p f fs from m h apart says =
+      let why = refusal x.channels m.channel in
+      let due = passed from f m in
+      let put = message_put (length log) 0 n from m in
+      message_channels configs log n conn at (made due) late x.channels chan refl (sends_none due) (closes_none due) m.channel (with_arrival x.channels.inbounds m.channel (from, m.bytes))
+      (named_with why m.channel put x.channels.waiting) (mailboxes_given x.channels m.channel (from, m.bytes) put chan.named refl) refl
+      (messages_admitted due (passed_lives why n from m (name_of f)) p f fs m true h (passed_holds why n from m (name_of f)) says) refl
+      (delivered_waits configs log n conn at (made due) late x.channels chan refl (sends_none due) (closes_none due) p f fs why from m (takes_first log (made due) (limit_at configs n) p f fs (messages m.channel) h) apart refl)
 
   -- the channels once a message was asked of, and no channel changed
   asked_channels : (due : Row) (c : ℕ) → ((d q : ℕ) → admitted_by (limit_at configs n) n d (messages q) log (made due) ≡ cond ((d == conn) && ((q == c) && may_admit x.channels c conn at)) (at ∷ []) [])
       → ((q : ℕ) → line (log ++ made due ∷ []) (queue.Channel n q) ≡ line log (queue.Channel n q)) → ChannelsStand configs (log ++ made due ∷ []) n (metered c conn at x.channels)
   asked_channels due c admits lines =
-      message_channels configs log n conn at (made due) late x.channels chan refl (sends_none due) (closes_none due) c x.channels.waiting admits refl (holds_frame (queue.Channel n) log (made due) x.channels.waiting chan.waits lines)
+      message_channels configs log n conn at (made due) late x.channels chan refl (sends_none due) (closes_none due) c x.channels.inbounds x.channels.waiting (mailboxes_stay x.channels chan.named) refl admits refl (holds_frame (queue.Channel n) log (made due) x.channels.waiting chan.waits lines)
 
   -- the channels beside a ping
   beside_ping : (due : Row) → ((d q : ℕ) → admitted_by (limit_at configs n) n d (messages q) log (made due) ≡ []) → ((q : ℕ) → line (log ++ made due ∷ []) (queue.Channel n q) ≡ line log (queue.Channel n q))
@@ -243,19 +251,19 @@ module _ (configs : List Config) (log : List Entry) (at seed conn n : ℕ) (half
     Off = links ≡ without_first l half.link (other_side half.writes)
 
     -- a message that its quota admits
-    message_off : (why : Option Cause) (m : Arrived) → IsRead (limit_at configs n) f.item (arriving.Message m) → may_admit x.channels m.channel conn at ≡ true
-        → row configs log at seed (act.RecvStep conn n) ≡ delivered why n half.peer m (taken_row (name_of f)) → r ≡ delivered why n half.peer m (taken_row (name_of f))
-        → y ≡ record x { channels = delivered_to why (length log) 0 n half.peer m (metered m.channel conn at x.channels) } → Off → Done
-    message_off why m read says is told parts kept =
-        let due = delivered why n half.peer m (taken_row (name_of f)) in
+    message_off : (m : Arrived) → IsRead (limit_at configs n) f.item (arriving.Message m) → may_admit x.channels m.channel conn at ≡ true
+        → row configs log at seed (act.RecvStep conn n) ≡ passed half.peer f m → r ≡ passed half.peer f m → y ≡ record x { channels = with_passed half.peer m } → Off → Done
+    message_off m read says is told parts kept =
+        let why = refusal x.channels m.channel in
+        let due = passed half.peer f m in
         let takes : due.takes ≡ name_of f ∷ [] = passed_takes why n half.peer m (name_of f) in
         let ends : flat_map ended_item due.ends ≡ [] = passed_ends why n half.peer m (name_of f) in
         let h : Takes log (made due) (limit_at configs n) p f fs (messages m.channel) = record { first = first; takes = takes; ends = ends; counts = read } in
         let aside : (q : Queue) → same_queue q (queue.Channel n m.channel) ≡ false → filter (stands_in q) (placed (length log) 0 due.puts) ≡ [] = λ q apart. passed_aside why q (length log) n half.peer m (name_of f) apart in
         let lives = passed_lives why n half.peer m (name_of f) in
         let beside : StillBeside due = beside_now due takes ends (λ q away. aside q (beside_channel n m.channel q away)) in
-        built due (delivered_to why (length log) 0 n half.peer m (metered m.channel conn at x.channels)) x.connections lives is told parts beside
-        (passed_channels p f fs why half.peer m h (λ q. link_channel half.link n q (other_side half.writes)) says)
+        built due (with_passed half.peer m) x.connections lives is told parts beside
+        (passed_channels p f fs half.peer m h (λ q. link_channel half.link n q (other_side half.writes)) says)
         (beside_message due lives x.connections.held (no_pings due lives p f fs m.channel false h (passed_holds why n half.peer m (name_of f))) (λ c. beside (queue.Ready n c) refl) (held_now due takes ends (λ c. aside (queue.Held n c) refl)))
         (links_now due lives takes ends (λ u j. aside (queue.Link j u) (channel_link n m.channel j u)) kept)
 
@@ -328,15 +336,8 @@ module _ (configs : List Config) (log : List Entry) (at seed conn n : ℕ) (half
         refuses ended.InvalidChannel cause.ChannelUnregistered is
         (subst (λ (z : Node). EndsRefused (length log) n conn half ended.InvalidChannel cause.ChannelUnregistered z y l links r) (ap (λ o. metered_on o m.channel conn at x) has) d)
     message_as m (Some capacity) true read has says is refuses d =
-        let why = refusal x.channels capacity m.channel in
         let asks : asked_of conn at (arriving.Message m) x ≡ record x { channels = metered m.channel conn at x.channels } = ap (λ o. metered_on o m.channel conn at x) has in
-        let passes : passed_row n half.peer (name_of f) (arriving.Message m) x.channels ≡ delivered why n half.peer m (taken_row (name_of f)) = ap (λ o. message_row o n half.peer (name_of f) m x.channels) has in
-        let passes_metered : passed_row n half.peer (name_of f) (arriving.Message m) (metered m.channel conn at x.channels) ≡ delivered why n half.peer m (taken_row (name_of f)) =
-        ap (λ o. message_row o n half.peer (name_of f) m (metered m.channel conn at x.channels)) has
-        in
-        message_off why m read says (is ∙ passes)
-        (d.0 ∙ (ap (λ (z : Node). passed_row n half.peer (name_of f) (arriving.Message m) z.channels) asks ∙ passes_metered))
-        (d.1.0 ∙ (ap (passed_into (length log) n half.peer (arriving.Message m)) asks ∙ ap (λ o. message_into o (length log) n half.peer m (record x { channels = metered m.channel conn at x.channels })) has)) d.1.1
+        message_off m read says is (d.0 ∙ ap (λ (z : Node). passed_row n half.peer (name_of f) (arriving.Message m) z.channels) asks) (d.1.0 ∙ ap (passed_into (length log) n half.peer (arriving.Message m)) asks) d.1.1
     message_as m (Some capacity) false read has says is refuses d =
         message_held m read says is d.0 (d.1.0 ∙ ap (λ o. held_into (length log) n conn (arriving.Message m) (metered_on o m.channel conn at x)) has) d.1.1
 
@@ -383,19 +384,20 @@ module _ (configs : List Config) (log : List Entry) (at seed conn n : ℕ) (half
     held_less = popped_at x.connections.held conn
 
     -- a message that its quota admits now
-    message_freed : (why : Option Cause) (m : Arrived) → IsRead (limit_at configs n) f.item (arriving.Message m) → may_admit x.channels m.channel conn at ≡ true
-        → row configs log at seed (act.RecvStep conn n) ≡ delivered why n half.peer m (taken_row (name_of f)) → r ≡ delivered why n half.peer m (taken_row (name_of f))
-        → y ≡ record x { channels = delivered_to why (length log) 0 n half.peer m (metered m.channel conn at x.channels); connections = record x.connections { held = held_less } } → Done
-    message_freed why m read says is told parts =
-        let due = delivered why n half.peer m (taken_row (name_of f)) in
+    message_freed : (m : Arrived) → IsRead (limit_at configs n) f.item (arriving.Message m) → may_admit x.channels m.channel conn at ≡ true
+        → row configs log at seed (act.RecvStep conn n) ≡ passed half.peer f m → r ≡ passed half.peer f m
+        → y ≡ record x { channels = with_passed half.peer m; connections = record x.connections { held = held_less } } → Done
+    message_freed m read says is told parts =
+        let why = refusal x.channels m.channel in
+        let due = passed half.peer f m in
         let takes : due.takes ≡ name_of f ∷ [] = passed_takes why n half.peer m (name_of f) in
         let ends : flat_map ended_item due.ends ≡ [] = passed_ends why n half.peer m (name_of f) in
         let took : Takes log (made due) (limit_at configs n) h f fs (messages m.channel) = record { first = first; takes = takes; ends = ends; counts = read } in
         let aside : (q : Queue) → same_queue q (queue.Channel n m.channel) ≡ false → filter (stands_in q) (placed (length log) 0 due.puts) ≡ [] = λ q apart. passed_aside why q (length log) n half.peer m (name_of f) apart in
         let lives = passed_lives why n half.peer m (name_of f) in
         let beside : StillBeside due = beside_still due takes ends (λ q away. aside q (beside_channel n m.channel q away)) in
-        built due (delivered_to why (length log) 0 n half.peer m (metered m.channel conn at x.channels)) (record x.connections { held = held_less }) lives is told parts beside
-        (passed_channels h f fs why half.peer m took (λ q. refl) says)
+        built due (with_passed half.peer m) (record x.connections { held = held_less }) lives is told parts beside
+        (passed_channels h f fs half.peer m took (λ q. refl) says)
         (beside_message due lives held_less (no_pings due lives h f fs m.channel false took (passed_holds why n half.peer m (name_of f))) (λ c. beside (queue.Ready n c) refl)
         (unheld_holds configs log n conn at (made due) late x.connections connects f fs due.puts (taken_off due takes ends) refl (λ c. aside (queue.Held n c) refl)))
         (links_stay due lives takes ends (λ u j. aside (queue.Link j u) (channel_link n m.channel j u)))
@@ -455,17 +457,9 @@ module _ (configs : List Config) (log : List Entry) (at seed conn n : ℕ) (half
         → RetriesAs (verdict_by o b) (length log) n conn at half.peer (named_as f (arriving.Message m)) x y r → Done
     message_tried m None b read has says is d = idle is d.0 (d.1 ∙ ap (λ o. metered_on o m.channel conn at x) has) kept
     message_tried m (Some capacity) true read has says is d =
-        let why = refusal x.channels capacity m.channel in
         let asks : asked_of conn at (arriving.Message m) x ≡ record x { channels = metered m.channel conn at x.channels } = ap (λ o. metered_on o m.channel conn at x) has in
-        let passes : passed_row n half.peer (name_of f) (arriving.Message m) x.channels ≡ delivered why n half.peer m (taken_row (name_of f)) = ap (λ o. message_row o n half.peer (name_of f) m x.channels) has in
-        let passes_metered : passed_row n half.peer (name_of f) (arriving.Message m) (metered m.channel conn at x.channels) ≡ delivered why n half.peer m (taken_row (name_of f)) =
-        ap (λ o. message_row o n half.peer (name_of f) m (metered m.channel conn at x.channels)) has
-        in
-        message_freed why m read says (is ∙ passes)
-        (d.0 ∙ (ap (λ (z : Node). passed_row n half.peer (name_of f) (arriving.Message m) z.channels) asks ∙ passes_metered))
-        (d.1
-        ∙ (ap (λ z. passed_into (length log) n half.peer (arriving.Message m) (unheld conn z)) asks
-        ∙ ap (λ o. message_into o (length log) n half.peer m (unheld conn (record x { channels = metered m.channel conn at x.channels }))) has))
+        message_freed m read says is (d.0 ∙ ap (λ (z : Node). passed_row n half.peer (name_of f) (arriving.Message m) z.channels) asks)
+        (d.1 ∙ ap (λ z. passed_into (length log) n half.peer (arriving.Message m) (unheld conn z)) asks)
     message_tried m (Some capacity) false read has says is d = message_stays m says is d.0 (d.1 ∙ ap (λ o. metered_on o m.channel conn at x) has)
 
     ping_tried : (b : Bool) → IsRead (limit_at configs n) f.item arriving.Ping → may_ping x.connections conn at ≡ b

@@ -44,7 +44,7 @@ use Rattle.p2p_net_tracker.proofs.EndSteps.{release_put, release_quiet, only_tol
 use Rattle.p2p_net_node.specs.Places as place
 use Rattle.p2p_net_node.specs.declared.node.Node.{Node}
 use Rattle.p2p_net_connecting.proofs.Leaving.{Leaving, qs, flight, connects, peer_is, side_is, without_tracker, emptied_puts}
-use Rattle.p2p_net_connecting.proofs.LeavingEntry.{half_act, no_channel, no_tracker, no_question, no_answer, no_listener, no_send, no_close, entry, ends_only, frees_side, ends_one, drops_end}
+use Rattle.p2p_net_connecting.proofs.LeavingEntry.{half_act, no_channel, no_tracker, no_question, no_answer, no_listener, no_send, no_close, no_stop, entry, ends_only, frees_side, ends_one, drops_end}
 use Rattle.p2p_net_connecting.proofs.LeavingLines.{link_off, none_of, off_flight, put_none, stays_with, unmoved, held_gone, control_gone, ready_gone, flight_gone}
 use Rattle.p2p_net_node.proofs.Receivers.{sends_apart, closes_apart, admits_ended}
 
@@ -157,7 +157,7 @@ module _ {configs : List Config} {log : List Entry} {n conn : ℕ} {half : Half}
               (none_of t (queue.Channel n k) refl refl refl refl refl (off_flight t (queue.Channel n k) refl refl)) (put_none t at seed sends (queue.Channel n k) refl refl);
           admits = admits_ended configs log e n refl;
           sends = sends_apart log e n (half_act sends conn n) refl (no_send conn n sends);
-          closes = closes_apart log e n (half_act sends conn n) refl (no_close conn n sends);
+          closes = closes_apart log e n (half_act sends conn n) refl (no_close conn n sends) (no_stop conn n sends);
         })
 
     -- and an end of its link is dropped

@@ -27,12 +27,14 @@ use Rattle.p2p_net_queues.specs.Rows.{taken_row}
 use Rattle.p2p_net_queues.specs.Tables.{pushed_at, popped_at}
 use Rattle.p2p_net_queues.proofs.Going.{line-taken}
 use Rattle.p2p_net_queues.proofs.Holding.{TakesFirst, holds_frame, holds_taken, holds_put}
+use Rattle.p2p_flow_connection.specs.Arriving.{Arrived as Mailboxes}
 use Rattle.p2p_net_channels.specs.declared.arrival.Arrived.{Arrived}
 use Rattle.p2p_net_channels.specs.declared.channels.Channels.{Channels}
 use Rattle.p2p_net_channels.specs.Arrivals.{delivered}
-use Rattle.p2p_net_channels.specs.Channels.{message_put, delivered_to, may_admit, metered}
+use Rattle.p2p_net_channels.specs.Channels.{message_put, named_with, may_admit, metered}
 use Rattle.p2p_net_channels.specs.Stands.{ChannelsStand, SendsNone, ClosesNone}
 use Rattle.p2p_net_channels.proofs.Changes.{channels_frame, same_channel}
+use Rattle.p2p_net_channels.proofs.Mailboxes.{MailboxesMove}
 use Rattle.p2p_net_channels.proofs.Metering.{channels_metered}
 use Rattle.p2p_net_connections.specs.Stands.{ConnectionsStand}
 use Rattle.p2p_net_connections.specs.declared.connections.Connections.{Connections}
@@ -165,10 +167,10 @@ module _ (configs : List Config) (log : List Entry) (n conn at : ℕ) (e : Entry
 
   module _ (ch : Channels) (s : ChannelsStand configs log n ch) (registers : registers_at configs n e.event.act ≡ []) (sends : SendsNone log e n) (closes : ClosesNone log e n) where
     -- a message came whose quota says this, by what the entry admits and which messages wait then
-    pub message_channels : (c : ℕ) (w : List (ℕ × List Envelope)) → ((d q : ℕ) → admitted_by limit n d (messages q) log e ≡ cond ((d == conn) && ((q == c) && may_admit ch c conn at)) (at ∷ []) [])
-        → e.event.at ≡ at → HoldsLines (queue.Channel n) (log ++ e ∷ []) w → ChannelsStand configs (log ++ e ∷ []) n (record (metered c conn at ch) { waiting = w })
-    message_channels c w admits moment waits =
-        channels_metered configs log e n c conn at ch w s registers late moment
+    pub message_channels : (c : ℕ) (a : Mailboxes Key) (w : List (ℕ × List Envelope)) → MailboxesMove ch a w → a.ended ≡ ch.inbounds.ended → ((d q : ℕ) → admitted_by limit n d (messages q) log e ≡ cond ((d == conn) && ((q == c) && may_admit ch c conn at)) (at ∷ []) [])
+        → e.event.at ≡ at → HoldsLines (queue.Channel n) (log ++ e ∷ []) w → ChannelsStand configs (log ++ e ∷ []) n (record (metered c conn at ch) { inbounds = a; waiting = w })
+    message_channels c a w moves same admits moment waits =
+        channels_metered configs log e n c conn at ch a w s moves same registers late moment
         (λ d q. admits d q ∙ ap (λ b. cond b (at ∷ []) []) (over (d == conn) (q == c) (may_admit ch c conn at))) sends closes waits
       where
         over : (a b z : Bool) → (a && (b && z)) ≡ (b && (a && z))
@@ -183,7 +185,7 @@ module _ (configs : List Config) (log : List Entry) (n conn at : ℕ) (e : Entry
 
     -- the messages that wait once one was delivered, by what keeps it out of its channel
     pub delivered_waits : (p : Queue) (f : Envelope) (fs : List Envelope) (why : Option Cause) (from : Key) (m : Arrived) → TakesFirst log e p f fs → ((q : ℕ) → same_queue p (queue.Channel n q) ≡ false)
-        → e.puts ≡ (delivered why n from m (taken_row (name_of f))).puts → HoldsLines (queue.Channel n) (log ++ e ∷ []) (delivered_to why (length log) 0 n from m ch).waiting
+        → e.puts ≡ (delivered why n from m (taken_row (name_of f))).puts → HoldsLines (queue.Channel n) (log ++ e ∷ []) (named_with why m.channel (message_put (length log) 0 n from m) ch.waiting)
     delivered_waits p f fs (Some why) from m took apart puts = holds_frame (queue.Channel n) log e ch.waiting s.waits (λ q. line_aside log e p (queue.Channel n q) f fs [] took puts (apart q) refl)
     delivered_waits p f fs None from m took apart puts =
         holds_put (queue.Channel n) (same_channel n) log e p f fs m.channel (message_put (length log) 0 n from m) ch.waiting s.waits took apart

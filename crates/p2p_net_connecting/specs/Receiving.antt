@@ -79,23 +79,15 @@ asked_of conn at (arriving.Message m) x = metered_on (capacity_at x.channels m.c
 
 -- ---- what becomes of it
 
-abbrev pub message_row : Option ℕ → ℕ → Key → ℕ × ℕ → Arrived → Channels → Row
-message_row None n from name m ch = taken_row name
-message_row (Some capacity) n from name m ch = delivered (refusal ch capacity m.channel) n from m (taken_row name)
-
 -- the row of what was admitted
 abbrev pub passed_row : ℕ → Key → ℕ × ℕ → Arriving → Channels → Row
 passed_row n from name arriving.Ping ch = taken_row name
-passed_row n from name (arriving.Message m) ch = message_row (capacity_at ch m.channel) n from name m ch
-
-abbrev pub message_into : Option ℕ → ℕ → ℕ → Key → Arrived → Node → Node
-message_into None k n from m x = x
-message_into (Some capacity) k n from m x = record x { channels = delivered_to (refusal x.channels capacity m.channel) k 0 n from m x.channels }
+passed_row n from name (arriving.Message m) ch = delivered (refusal ch m.channel) n from m (taken_row name)
 
 -- the node once it was admitted
 abbrev pub passed_into : ℕ → ℕ → Key → Arriving → Node → Node
 passed_into k n from arriving.Ping x = x
-passed_into k n from (arriving.Message m) x = message_into (capacity_at x.channels m.channel) k n from m x
+passed_into k n from (arriving.Message m) x = record x { channels = delivered_to k 0 n from m x.channels }
 
 -- the node once it is held
 abbrev pub held_into : ℕ → ℕ → ℕ → Arriving → Node → Node

@@ -71,7 +71,7 @@ fn admit(
     match arriving {
         Arriving::Ping => Ok(Some(node.connections.admit_ping(conn, at)?)),
         Arriving::Message(arrived) => {
-            if node.channels.capacity(arrived.channel).is_none() {
+            if !node.channels.inbounds.is_registered(arrived.channel) {
                 return Ok(None);
             }
             Ok(Some(node.channels.admit(arrived.channel, conn, at)?))
@@ -88,14 +88,10 @@ fn pass(node: &mut Node, turn: Turn, from: Key, arrival: Arrival) -> Result<Row,
     let mut row = taking(turn.alloc, name)?;
     match arriving {
         Arriving::Ping => Ok(row),
-        Arriving::Message(arrived) => match node.channels.capacity(arrived.channel) {
-            None => Ok(row),
-            Some(capacity) => {
-                node.channels
-                    .deliver(turn, &mut row, capacity, from, arrived)?;
-                Ok(row)
-            }
-        },
+        Arriving::Message(arrived) => {
+            node.channels.deliver(turn, &mut row, from, arrived)?;
+            Ok(row)
+        }
     }
 }
 
@@ -146,8 +142,8 @@ fn take(
     }
 }
 
-/// Takes the first frame off a link. Where it cannot be read, or none will come since the other end was dropped, the
-/// connection ends.
+/// Takes the first frame off a link. Where it cannot be read, or none will come since the link is broken, the connection
+/// ends.
 fn receive(
     node: &mut Node,
     turn: Turn,

@@ -156,12 +156,16 @@ quiet_sends _ r h = (refl, refl)
 
 -- no reader is dropped
 still_closes : (log : List Entry) (e : Entry) (n : ℕ) (a : Act) (rep : Reply) → e.event.act ≡ a → e.reply ≡ rep → is_quiet a rep ≡ true → ClosesNone log e n
-still_closes log e n (act.Close d m) rep is told q c = is_closed-kept log e n c m d is (ap (λ r. ((m == n) && (d == c)) && is_done r) told ∙ by rep q)
+still_closes log e n (act.Close d m) rep is told q = record {
+  readers = λ c. is_closed-kept log e n c m d is (ap (λ r. ((m == n) && (d == c)) && is_done r) told ∙ by c rep q);
+  goes_on = is_stopped-kept log e n (ap (stops n) is);
+}
   where
-    by : (r : Reply) → is_quiet (act.Close d m) r ≡ true → (((m == n) && (d == c)) && is_done r) ≡ false
-    by reply.Ok q = cc
-    by _ q = and_false ((m == n) && (d == c))
-still_closes log e n a rep is told q c = closes_apart log e n a is refl c
+    by : (c : ℕ) (r : Reply) → is_quiet (act.Close d m) r ≡ true → (((m == n) && (d == c)) && is_done r) ≡ false
+    by c reply.Ok q = cc
+    by c _ q = and_false ((m == n) && (d == c))
+still_closes log e n (act.Stop by_start m) rep is told q = cc
+still_closes log e n a rep is told q = closes_apart log e n a is refl refl
 
 quiet_tracks : (n : ℕ) (a : Act) (r : Reply) → is_quiet a r ≡ true → steps_tracker n a ≡ false
 quiet_tracks n (act.Tracker m) r h = cc

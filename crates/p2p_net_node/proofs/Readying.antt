@@ -3,6 +3,7 @@ use Rattle.std.proofs.Common.{◌≡◌, ℕ, zero, suc, ◌+◌, ◌*◌, ◌^�
 use Rattle.std.specs.Prelude.{slice_get, nat_lt, nat_le, not, ◌&&◌, is_some}
 use Rattle.std.proofs.lemmas.Bool.{and_parts, not-true, false≢true}
 use Rattle.std.proofs.lemmas.Option.{same_Some}
+use Rattle.std.proofs.Math.Nat.{mul-pos}
 use Rattle.std.proofs.lemmas.Bool.Decides.{nat_tests}
 use Rattle.p2p_log_rules.proofs.Bools.{and_false, and_true}
 use Rattle.p2p_log.specs.declared.config.Config.{Config}
@@ -282,24 +283,60 @@ may_act-nodes configs log nodes links rs a s requested = may_by configs log node
 pub sizes_there : (configs : List Config) (log : List Entry) (nodes : List Node) (links : Links) → WorldStands configs log nodes links → (n : ℕ) (x : Node) → slice_get nodes n ≡ Some x → fits x.config ≡ true
 sizes_there configs log nodes links s n x g = fits_there configs n x.config s.valid (s.each n x g).own.config
 
+-- the counts of a configuration are 1 or more, and its messages fit in a link
+abbrev are_some : Config → Bool
+are_some c = (nat_lt 0 c.max_peers_per_set && nat_lt 0 c.mailbox_size) && (nat_lt 0 c.tracked_peer_sets && nat_lt 0 c.send_batch_size)
+
+some_and_short : (c : Config) → fits c ≡ true → (are_some c && nat_le c.max_message_size 16777200) ≡ true
+some_and_short c fit = (and_parts (are_some c && nat_le c.max_message_size 16777200) (fits_usize (c.max_peers_per_set * c.tracked_peer_sets)) (and_parts (sizes_fit c) (gates_fit c) fit).0).0
+
+short_message : (c : Config) → fits c ≡ true → nat_le c.max_message_size 16777200 ≡ true
+short_message c fit = (and_parts (are_some c) (nat_le c.max_message_size 16777200) (some_and_short c fit)).1
+
+-- a count that is tested is 1 or more
+is_some_count : (k : ℕ) → nat_lt 0 k ≡ true → 1 ≤ k
+is_some_count k is = grind (arith, nat_tests)
+
+record Counts (c : Config) : Type 0 where
+  mailbox : 1 ≤ c.mailbox_size
+  peers : 1 ≤ c.max_peers_per_set
+  sets : 1 ≤ c.tracked_peer_sets
+
+counts_of : (c : Config) → fits c ≡ true → Counts c
+counts_of c fit =
+    let both = and_parts (nat_lt 0 c.max_peers_per_set && nat_lt 0 c.mailbox_size) (nat_lt 0 c.tracked_peer_sets && nat_lt 0 c.send_batch_size) (and_parts (are_some c) (nat_le c.max_message_size 16777200) (some_and_short c fit)).0 in
+    let first = and_parts (nat_lt 0 c.max_peers_per_set) (nat_lt 0 c.mailbox_size) both.0 in
+    record {
+      mailbox = is_some_count c.mailbox_size first.1;
+      peers = is_some_count c.max_peers_per_set first.0;
+      sets = is_some_count c.tracked_peer_sets (and_parts (nat_lt 0 c.tracked_peer_sets) (nat_lt 0 c.send_batch_size) both.1).0;
+    }
+
 pub one_mailbox : (c : Config) → fits c ≡ true → 1 ≤ c.mailbox_size
-one_mailbox c fit =
-    let sizes = and_parts (((nat_lt 0 c.max_peers_per_set && nat_lt 0 c.mailbox_size) && (nat_lt 0 c.tracked_peer_sets && nat_lt 0 c.send_batch_size)) && nat_le c.max_message_size 16777200) (fits_usize (c.max_peers_per_set * c.tracked_peer_sets)) (and_parts (sizes_fit c) (gates_fit c) fit).0 in
-    let four = and_parts ((nat_lt 0 c.max_peers_per_set && nat_lt 0 c.mailbox_size) && (nat_lt 0 c.tracked_peer_sets && nat_lt 0 c.send_batch_size)) (nat_le c.max_message_size 16777200) sizes.0 in
-    let two = and_parts (nat_lt 0 c.max_peers_per_set && nat_lt 0 c.mailbox_size) (nat_lt 0 c.tracked_peer_sets && nat_lt 0 c.send_batch_size) four.0 in
-    let one = (and_parts (nat_lt 0 c.max_peers_per_set) (nat_lt 0 c.mailbox_size) two.0).1 in
-    grind (arith, nat_tests)
+one_mailbox c fit = (counts_of c fit).mailbox
+
+-- a channel whose quota admits something has a place
+some_places : (configs : List Config) (n : ℕ) (rate : Rate) (x : Node) → OwnStands configs n x → fits x.config ≡ true → is_quota rate ≡ true → 1 ≤ capacity_by x rate
+some_places configs n rate x own fit quota =
+    let counts = counts_of x.config fit in
+    subst (λ k. 1 ≤ k * rate.burst) (sym own.retained)
+    (product (x.config.max_peers_per_set * x.config.tracked_peer_sets) rate.burst (product x.config.max_peers_per_set x.config.tracked_peer_sets counts.peers counts.sets)
+    (is_some_count rate.burst (and_parts (nat_lt 0 rate.burst) (nat_lt 0 rate.period) quota).0))
+  where
+    product : (a b : ℕ) → 1 ≤ a → 1 ≤ b → 1 ≤ a * b
+    product a b h g = one_at_least (mul-pos (more_than_none h) (more_than_none g))
+      where
+        more_than_none : {k : ℕ} → 1 ≤ k → 0 < k
+        more_than_none {k} h = omega (arith, h)
+
+        one_at_least : {k : ℕ} → 0 < k → 1 ≤ k
+        one_at_least {k} h = omega (arith, h)
 
 quotas : (c : Config) → fits c ≡ true → (is_quota c.allowed_handshake_rate_per_ip ≡ true) × (is_quota c.allowed_handshake_rate_per_subnet ≡ true)
 quotas c fit =
     let gates = (and_parts (sizes_fit c) (gates_fit c) fit).1 in
     let both = (and_parts (nat_lt 0 c.max_concurrent_handshakes) (is_quota c.allowed_handshake_rate_per_ip && is_quota c.allowed_handshake_rate_per_subnet) gates).1 in
     and_parts (is_quota c.allowed_handshake_rate_per_ip) (is_quota c.allowed_handshake_rate_per_subnet) both
-
-short_message : (c : Config) → fits c ≡ true → nat_le c.max_message_size 16777200 ≡ true
-short_message c fit =
-    let sizes = and_parts (((nat_lt 0 c.max_peers_per_set && nat_lt 0 c.mailbox_size) && (nat_lt 0 c.tracked_peer_sets && nat_lt 0 c.send_batch_size)) && nat_le c.max_message_size 16777200) (fits_usize (c.max_peers_per_set * c.tracked_peer_sets)) (and_parts (sizes_fit c) (gates_fit c) fit).0 in
-    (and_parts ((nat_lt 0 c.max_peers_per_set && nat_lt 0 c.mailbox_size) && (nat_lt 0 c.tracked_peer_sets && nat_lt 0 c.send_batch_size)) (nat_le c.max_message_size 16777200) sizes.0).1
 
 short : (k m : ℕ) → nat_le k m ≡ true → nat_le m 16777200 ≡ true → k < 2 ^ 32
 short k m h g = grind (arith, nat_tests)
@@ -315,7 +352,7 @@ ready_by configs log n (act.Register c m rate) x here s released reserved fit ma
       (λ runs.
           sum_below (mailbox_size_at configs n) (sum_capacities (registered configs (events_of log) n)) (capacity_for (slice_get configs n) rate) x.channels.total (capacity_by x rate)
           (chan.total ∙ ap sum_capacities (channels-asked configs log n (sym s.life ∙ runs))) (capacity_is configs n rate x s.own) asked.room),
-      asked.quota,
+      (some_places configs n rate x s.own fit asked.quota, asked.quota),
     )
 ready_by configs log n (act.Start m) x here s released reserved fit may =
     let chan : ChannelsStand configs log n x.channels = s.each place.channels in

@@ -11,12 +11,13 @@ use Rattle.p2p_log.specs.declared.event.Act.TheVariants as act
 use Rattle.p2p_log.specs.Lines.{line}
 use Rattle.p2p_log_rules.specs.Checking.{checked_at, Check, check_of}
 use Rattle.p2p_log_rules.specs.Connections.{is_done, is_end}
-use Rattle.p2p_log_rules.specs.Facts.{taken}
+use Rattle.p2p_log_rules.specs.Facts.{taken, stops}
 use Rattle.p2p_log_rules.specs.Metering.{Metered, pings, messages, limit_at, admitted_by}
 use Rattle.p2p_log_rules.proofs.Connections.{steps_receiver}
 use Rattle.p2p_log_rules.proofs.Metering.{admits_one, admitted_is}
 use Rattle.p2p_log_rules.specs.Valid.{checked_by}
 use Rattle.p2p_log_rules.proofs.Checks.{check_kinds, IsMade, is_made, checked_at-apart, checked_at-spent_elsewhere, checked_at-elsewhere}
+use Rattle.p2p_log_rules.proofs.Channels.{is_stopped-kept}
 use Rattle.p2p_log_rules.proofs.Closing.{reader_kinds, is_closed-apart, is_closed-kept}
 use Rattle.p2p_log_rules.proofs.Families.{kinds_of, are_apart}
 use Rattle.p2p_log_rules.proofs.Sends.{send_kinds, Asks, sent_moments-apart, sent_moments-elsewhere}
@@ -133,11 +134,18 @@ sends_unnamed log e n a is h = sends_apart log e n a is (refl, refl)
 
 -- ---- readers
 
-pub closes_apart : (log : List Entry) (e : Entry) (n : ℕ) (a : Act) → e.event.act ≡ a → are_apart (kinds_of a) reader_kinds ≡ true → ClosesNone log e n
-closes_apart log e n a is apart c = is_closed-apart log e n c (ap (λ b. are_apart (kinds_of b) reader_kinds) is ∙ apart)
+pub closes_apart : (log : List Entry) (e : Entry) (n : ℕ) (a : Act) → e.event.act ≡ a → are_apart (kinds_of a) reader_kinds ≡ true → stops n a ≡ false → ClosesNone log e n
+closes_apart log e n a is apart goes_on = record {
+  readers = λ c. is_closed-apart log e n c (ap (λ b. are_apart (kinds_of b) reader_kinds) is ∙ apart);
+  goes_on = is_stopped-kept log e n (ap (stops n) is ∙ goes_on);
+}
 
 pub closes_unnamed : (log : List Entry) (e : Entry) (n : ℕ) (a : Act) → e.event.act ≡ a → names log a (at channels n) ≡ false → ClosesNone log e n
-closes_unnamed log e n (act.Close d m) is h c =
+closes_unnamed log e n (act.Close d m) is h =
     let other : (m == n) ≡ false = grind (arith, nat_tests) in
-    is_closed-kept log e n c m d is (ap (λ b. (b && (d == c)) && is_done e.reply) other)
-closes_unnamed log e n a is h c = closes_apart log e n a is refl c
+    record {
+      readers = λ c. is_closed-kept log e n c m d is (ap (λ b. (b && (d == c)) && is_done e.reply) other);
+      goes_on = is_stopped-kept log e n (ap (stops n) is);
+    }
+closes_unnamed log e n (act.Stop by_start m) is h = closes_apart log e n (act.Stop by_start m) is refl (let other : (m == n) ≡ false = grind (arith, nat_tests) in other)
+closes_unnamed log e n a is h = closes_apart log e n a is refl refl

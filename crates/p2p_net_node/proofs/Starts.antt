@@ -87,7 +87,7 @@ each-append P xs x each last n y s =
 
 -- no channels and no links stand for no log
 channels_new : (configs : List Config) (n : ℕ) → mailbox_size_at configs n < 2 ^ 64 → ChannelsStand configs [] n no_channels
-channels_new configs n h = record { capacities = λ c. ap (λ l. capacity_in l c) (sym (channels-none configs n)); total = ap sum_capacities (sym (channels-none configs n)); room = omega (arith, h); waits = holds_none (queue.Channel n); quotas = quotas_new configs n; senders = senders_new n; checks = checks_new n; closed = closed_new n }
+channels_new configs n h = record { capacities = λ c. ap (λ l. capacity_in l c) (sym (channels-none configs n)); total = ap sum_capacities (sym (channels-none configs n)); room = omega (arith, h); waits = holds_none (queue.Channel n); named = λ c. refl; quotas = quotas_new configs n; senders = senders_new n; checks = checks_new n; closed = closed_new n; ended = sym (is_stopped-none n) }
 
 pub links_new : (configs : List Config) → LinksStand configs [] no_links
 links_new configs = record {

@@ -22,7 +22,7 @@ use Rattle.p2p_net_node.specs.Requested.{capacity_by}
 use Rattle.p2p_net_node.specs.declared.node.Node.{Node}
 use Rattle.p2p_net_node.specs.declared.requested.Requested.{Requested}
 
--- whether a node has started
+-- whether a node has started, and has not stopped since
 abbrev pub is_started : Node → Bool
 is_started x = is_bound x.router.messenger.binding
 
@@ -100,7 +100,7 @@ may_ask log x r _ = true
 
 -- the sizes of a node, where it is asked for an act, that its tracker may take what waits for it, and that its handshakes hold places
 abbrev pub IsReady : Act → Node → Type 0
-IsReady (act.Register c n rate) x = (x.stopped ≡ false → x.channels.total + capacity_by x rate < 2 ^ 64) × (is_quota rate ≡ true)
+IsReady (act.Register c n rate) x = (x.stopped ≡ false → x.channels.total + capacity_by x rate < 2 ^ 64) × ((1 ≤ capacity_by x rate) × (is_quota rate ≡ true))
 IsReady (act.Start n) x =
     (x.stopped ≡ false → IsTrue (is_unbound x.router.messenger.binding))
     × ((1 ≤ x.config.mailbox_size)

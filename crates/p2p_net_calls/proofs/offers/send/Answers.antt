@@ -1,6 +1,6 @@
-use Rattle.std.proofs.Common.{ap, subst, ◌∙◌, ℕ, Option, true, not, ◌≡◌}
-use Rattle.std.specs.Prelude.{is_some}
+use Rattle.std.proofs.Common.{sym, ◌∙◌}
 use Rattle.p2p_net_channels.specs.Channels.{capacity_at}
+use Rattle.p2p_net_channels.proofs.Readers.{registered_places}
 use Rattle.p2p_net_calls.specs.Offering.{SendsOffered}
 use Rattle.p2p_net_node.specs.declared.node.Node.{Node}
 use Rattle.p2p_net_calls.proofs.Following.{follows_on}
@@ -10,7 +10,7 @@ pub returns-clause-does : goal.returns-clause-does
 returns-clause-does c =
     let x : Node = c.args.node.now in
     follows_on (capacity_at x.channels c.args.channel)
-    (subst (λ (o : Option ℕ). is_some o ≡ true) c.capacity.ensures (c.is_none.ensures ∙ ap not c.if-is_none.false))
+    (sym (registered_places x.channels c.args.channel) ∙ (sym c.is_registered.ensures ∙ c.if-not-is_registered.false))
     c.args.channel c.args.at c.args.to.now
     (λ o mid next row. SendsOffered o.refused c.args.turn.entry c.args.channel c.args.priority c.args.bytes.now o.admitted mid next row)
     x c.send_offered.new.node c.in_ok-with_list.field-0
