@@ -8,3 +8,4 @@ pub mod Names
 pub mod Refusals
 pub mod Saying
 pub mod Taking
+pub mod Views

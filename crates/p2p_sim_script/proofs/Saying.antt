@@ -95,7 +95,7 @@ has_only-put_at names Equal k l d e ms is later =
     rw same (sym (first_twice (is_among names l) (has_only names ms)))
 has_only-put_at names Greater k l d e ms is later = ap (λ b. is_among names l && b) later ∙ swapped (is_among names k) (is_among names l) (has_only names ms)
 
-has_only-put : (names : List (List ℕ)) (k : List ℕ) (d : Data) (ms : Members) → has_only names (put k d ms) ≡ is_among names k && has_only names ms
+pub has_only-put : (names : List (List ℕ)) (k : List ℕ) (d : Data) (ms : Members) → has_only names (put k d ms) ≡ is_among names k && has_only names ms
 has_only-put names k d no_members = refl
 has_only-put names k d (member l e ms) = has_only-put_at names (slice_cmp nat_cmp k l) k l d e ms refl (has_only-put names k d ms)
 

@@ -6,8 +6,8 @@ use Rattle.json.specs.Json.{Parse, parse_map, after_end_array, read_key, items_s
 use Rattle.json.specs.Lex.{tokens}
 use Rattle.json.proofs.Grammar.{left, Takes, value_is, value-begin_array, value-begin_object, skip_value-shorter, items_end, items_fail, items_more, members_end, members_no_key, members_fail, members_more, after_end_array-shorter, read_key-shorter}
 use Rattle.serde_json.specs.Data.{Num, Data, null, boolean, number, string, array, object, Items, no_items, item, Members, no_members, put}
-use Rattle.serde_json.specs.View.{view, items_view}
-use Rattle.serde_json.specs.declared.value.Value.{Value}
+use Rattle.p2p_sim_script.specs.View.{view, items_view}
+use Rattle.p2p_sim_script.specs.declared.value.Value.{Value}
 use Rattle.serde_json.specs.Read.{number_of, of_json, of_items, of_members, converted, read}
 use Rattle.p2p_sim_script.specs.Taken.{value_taken, items_taken, members_taken}
 

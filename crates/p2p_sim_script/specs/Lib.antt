@@ -14,3 +14,4 @@ pub mod Said
 pub mod Taken
 pub mod TrackerActForm
 pub mod Tree
+pub mod View

@@ -1,6 +1,6 @@
 //! The acts, each by its own names.
 ghost use Rattle.std.specs.Prelude.{◌≡◌};
-ghost use Rattle.serde_json.specs.View.{view};
+ghost use Rattle.p2p_sim_script.specs.View.{view};
 ghost use Rattle.p2p_sim_script.specs.Gives.{Gives};
 ghost use Rattle.p2p_sim_script.specs.ActForm.{act_named, act_of, check_of, close_of, recv_of, recv_step_of, register_of, router_of, send_checked_of, send_of, send_step_of, sending_act_named, start_of, stop_of};
 
@@ -8,8 +8,8 @@ use crate::error::ScriptError;
 use crate::parts::{read_node, read_rate};
 use crate::tracker_act::read_tracker_named;
 use crate::tree::{field, flag_or, only, whole};
+use crate::value::Value;
 use p2p_log::Act;
-use serde_json::Value;
 use std::alloc::Global;
 
 fn read_register(tree: &Value) -> Option<Act>

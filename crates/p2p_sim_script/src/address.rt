@@ -1,16 +1,16 @@
 //! Addresses, and peers with theirs.
 ghost use Rattle.std.specs.Prelude.{◌≡◌, [], length, codes};
 ghost use Rattle.serde_json.specs.Find.{get};
-ghost use Rattle.serde_json.specs.View.{view, items_view};
+ghost use Rattle.p2p_sim_script.specs.View.{view, items_view};
 ghost use Rattle.p2p_sim_script.specs.Gives.{Gives};
 ghost use Rattle.p2p_sim_script.specs.Tree.{field_at, form_or};
 ghost use Rattle.p2p_sim_script.specs.AddressForm.{byte_of, port_of, ip_with, ip_of, socket_of, dns_of, ingress_of, symmetric_of, asymmetric_of, address_of, pair_in, pair_of, pair_with, peers_of};
 
 use crate::error::ScriptError;
 use crate::tree::{FromTree, field, only, within};
+use crate::value::Value;
 use p2p_address::{Address, Ingress, IpAddr, SocketAddr};
 use p2p_base::{Key, List, Map, SetError, Text};
-use serde_json::Value;
 use std::alloc::Global;
 
 fn read_byte(tree: &Value) -> Option<u8>

@@ -1,6 +1,6 @@
 //! The configuration of a node.
 ghost use Rattle.std.specs.Prelude.{◌≡◌, ◌-◌, ◌^◌};
-ghost use Rattle.serde_json.specs.View.{view};
+ghost use Rattle.p2p_sim_script.specs.View.{view};
 ghost use Rattle.p2p_sim_script.specs.Tree.{absent_or, within as a_within};
 ghost use Rattle.p2p_sim_script.specs.ConfigForm.{config_of, named_of, with_dials, with_peers};
 
@@ -8,9 +8,9 @@ use crate::error::ScriptError;
 use crate::parts::rate_or;
 use crate::preset::read_preset;
 use crate::tree::{FromTree, flag_or, only, whole, whole_or, within, within_or};
+use crate::value::Value;
 use p2p_base::Key;
 use p2p_log::Config;
-use serde_json::Value;
 use std::alloc::Global;
 
 const NAMES: [&str; 19] = [

@@ -1,15 +1,15 @@
 //! The acts of a node's dialer, of its attempts, of its listener, of its handshakes, of its spawner and of links, each by its
 //! own names.
 ghost use Rattle.std.specs.Prelude.{◌≡◌};
-ghost use Rattle.serde_json.specs.View.{view};
+ghost use Rattle.p2p_sim_script.specs.View.{view};
 ghost use Rattle.p2p_sim_script.specs.DialerActForm.{attempt_named_of, attempt_of, connect_of, cut_of, dialer_act_named, dialer_of, finish_of, handshake_of, listener_of, refuse_of, resolve_of, spawner_of};
 ghost use Rattle.p2p_sim_script.specs.Gives.{Gives};
 
 use crate::error::ScriptError;
 use crate::parts::read_node;
 use crate::tree::{field, only, whole};
+use crate::value::Value;
 use p2p_log::Act;
-use serde_json::Value;
 use std::alloc::Global;
 
 fn read_dialer(tree: &Value) -> Option<Act>

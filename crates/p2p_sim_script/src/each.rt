@@ -1,16 +1,16 @@
 //! A list, read item by item: an item's tree is let go as soon as it has said what it says.
 ghost use Rattle.std.specs.Prelude.{◌≡◌, ◌<◌, ◌≤◌, ◌∷◌, length, Some, None, Err, IfOk, OnOk};
 ghost use Rattle.json.specs.Json.{parse_map};
-ghost use Rattle.serde_json.specs.View.{view};
+ghost use Rattle.p2p_sim_script.specs.View.{view};
 ghost use Rattle.p2p_sim_script.specs.Tree.{each, list_of};
 ghost use Rattle.p2p_sim_script.specs.Taken.{value_taken, items_taken};
 
 use crate::error::{ReadError, ScriptError};
+use crate::reading::{read_from, read_items, read_value};
 use crate::tree::FromTree;
-use crate::value::{read_from, read_items, read_value};
+use crate::value::Value;
 use json::{Reader, Token};
 use p2p_base::List;
-use serde_json::Value;
 use std::alloc::Global;
 
 /// What the next value of the reader says as a list. `None` where it hasn't the form of one.

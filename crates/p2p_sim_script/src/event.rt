@@ -1,13 +1,13 @@
 //! An event: its moment, its seed, and its act.
 ghost use Rattle.std.specs.Prelude.{◌≡◌};
-ghost use Rattle.serde_json.specs.View.{view};
+ghost use Rattle.p2p_sim_script.specs.View.{view};
 ghost use Rattle.p2p_sim_script.specs.Form.{event_of};
 
 use crate::act::read_act;
 use crate::error::ScriptError;
 use crate::tree::{FromTree, whole, whole_or};
+use crate::value::Value;
 use p2p_log::Event;
-use serde_json::Value;
 use std::alloc::Global;
 
 impl FromTree for Event {

@@ -4,6 +4,7 @@
 
 mod act;
 mod address;
+mod borrowed;
 mod config;
 mod dialer_act;
 mod each;
@@ -14,6 +15,7 @@ mod list;
 mod number;
 mod parts;
 mod preset;
+mod reading;
 mod script;
 mod text;
 mod tracker_act;

@@ -1,13 +1,13 @@
 //! Lists.
 ghost use Rattle.std.specs.Prelude.{◌≡◌, Option};
-ghost use Rattle.serde_json.specs.View.{view, items_view};
+ghost use Rattle.p2p_sim_script.specs.View.{view, items_view};
 ghost use Rattle.p2p_sim_script.specs.Gives.{Gives};
 ghost use Rattle.p2p_sim_script.specs.Tree.{each, list_of};
 
 use crate::error::ScriptError;
 use crate::tree::FromTree;
+use crate::value::Value;
 use p2p_base::List;
-use serde_json::Value;
 use std::alloc::Global;
 
 impl<T: FromTree> FromTree for List<T> {

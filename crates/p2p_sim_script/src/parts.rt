@@ -1,18 +1,18 @@
 //! What an event names: keys, bytes, recipients, rates.
 ghost use Rattle.std.specs.Prelude.{◌≡◌};
 ghost use Rattle.serde_json.specs.Find.{get};
-ghost use Rattle.serde_json.specs.View.{view};
+ghost use Rattle.p2p_sim_script.specs.View.{view};
 ghost use Rattle.p2p_sim_script.specs.Gives.{Gives};
 ghost use Rattle.p2p_sim_script.specs.Tree.{field_at, form_or};
 ghost use Rattle.p2p_sim_script.specs.Parts.{all_named, all_of, bytes_of, key_of, keys_of, node_of, one_of, rate_of, recipients_of, some_of};
 
 use crate::error::ScriptError;
 use crate::tree::{FromTree, field, only, whole, within};
+use crate::value::Value;
 use bytes::Bytes;
 use hex::FromHexError;
 use p2p_base::{Key, List};
 use p2p_log::{Rate, Recipients};
-use serde_json::Value;
 use std::alloc::Global;
 
 /// The node of an act that names nothing else.

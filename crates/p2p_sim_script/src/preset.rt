@@ -1,11 +1,11 @@
 //! The presets of a configuration.
 ghost use Rattle.std.specs.Prelude.{◌≡◌};
-ghost use Rattle.serde_json.specs.View.{view};
+ghost use Rattle.p2p_sim_script.specs.View.{view};
 ghost use Rattle.p2p_sim_script.specs.Presets.{preset_of, preset_config};
 
+use crate::value::Value;
 use p2p_base::Key;
 use p2p_log::Config;
-use serde_json::Value;
 
 /// Which call of `Config` gives what a configuration doesn't say.
 #[derive(Clone, Copy)]

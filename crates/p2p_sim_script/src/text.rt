@@ -11,8 +11,8 @@ ghost use Rattle.p2p_sim_script.specs.Tree.{list_of};
 
 use crate::each::read_list;
 use crate::error::{ReadError, ScriptError};
-use crate::script::read_script;
-use crate::value::{read_from, read_value};
+use crate::reading::{read_from, read_value};
+use crate::script::read_tree;
 use json::{Reader, Scratch, Token};
 use p2p_base::List;
 use p2p_log::{Config, Event};
@@ -74,7 +74,7 @@ fn read_outer(
         Token::BeginObject => Ok(script(read_found(alloc, reader)?)),
         _ => {
             let tree = read_from(alloc, token, reader, DEPTH)?;
-            match read_script(alloc, &tree) {
+            match read_tree(alloc, &tree) {
                 Ok(script) => Ok(Some(script)),
                 Err(ScriptError::NotScript) => Ok(None),
                 Err(ScriptError::Memory) => Err(ReadError::Memory),

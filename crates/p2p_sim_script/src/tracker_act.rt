@@ -1,6 +1,6 @@
 //! The acts about a node's tracker, each by its own names.
 ghost use Rattle.std.specs.Prelude.{◌≡◌};
-ghost use Rattle.serde_json.specs.View.{view};
+ghost use Rattle.p2p_sim_script.specs.View.{view};
 ghost use Rattle.p2p_sim_script.specs.Gives.{Gives};
 ghost use Rattle.p2p_sim_script.specs.TrackerActForm.{answer_of, block_of, blocked_of, next_of, overwrite_of, peer_set_of, question_of, subscribe_of, track_of, tracker_act_named, tracker_of};
 
@@ -9,10 +9,10 @@ use crate::dialer_act::read_dialer_named;
 use crate::error::ScriptError;
 use crate::parts::read_node;
 use crate::tree::{field, only, whole};
+use crate::value::Value;
 use p2p_base::Key;
 use p2p_flow::AddressableTrackedPeers;
 use p2p_log::{Act, Asked};
-use serde_json::Value;
 use std::alloc::Global;
 
 fn read_track(alloc: Global, tree: &Value) -> Result<Act, ScriptError>

@@ -2,12 +2,12 @@
 ghost use Rattle.std.specs.Prelude.{◌≡◌, ℕ, ◌-◌, ◌^◌, List, map, Option};
 ghost use Rattle.serde_json.specs.Data.{Data};
 ghost use Rattle.serde_json.specs.Find.{get, as_bool};
-ghost use Rattle.serde_json.specs.View.{view, members_view};
+ghost use Rattle.p2p_sim_script.specs.View.{view, members_view};
 ghost use Rattle.p2p_sim_script.specs.Gives.{Gives};
 ghost use Rattle.p2p_sim_script.specs.Tree.{field_at, form_or, only_at, has_only, whole as a_whole, within as a_within};
 
 use crate::error::ScriptError;
-use serde_json::{Map, Value};
+use crate::value::Value;
 use std::alloc::Global;
 
 /// What can be read from a tree.
@@ -60,10 +60,10 @@ pub(crate) fn only(tree: &Value, names: &[&str]) -> bool
     }
 }
 
-fn has_only_names(members: &Map<String, Value>, names: &[&str]) -> bool
-    ensures { result ≡ has_only (map (λ n. n.now) names.now) (members_view members.now.entries) }
+fn has_only_names(members: &[(&str, Value<'_>)], names: &[&str]) -> bool
+    ensures { result ≡ has_only (map (λ n. n.now) names.now) (members_view members.now) }
 {
-    members.keys().all(|key| names.contains(&key.as_str()))
+    members.iter().all(|member| names.contains(&member.0))
 }
 
 /// The whole number at `name`.

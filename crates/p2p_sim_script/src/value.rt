@@ -1,102 +1,94 @@
-//! A JSON value, read at the front of what a reader has left.
-ghost use Rattle.std.specs.Prelude.{◌≡◌, ◌<◌, ◌≤◌, ◌∷◌, length, Some, None, Err, IfOk, OnOk};
-ghost use Rattle.json.specs.Reads.{token_of};
-ghost use Rattle.serde_json.specs.Data.{no_members};
-ghost use Rattle.serde_json.specs.View.{view, items_view, members_view};
-ghost use Rattle.p2p_sim_script.specs.Taken.{value_taken, items_taken, members_taken};
+//! A JSON value whose names and texts are borrowed from the text that it was read of.
+ghost use Rattle.std.specs.Prelude.{◌≡◌, option_map, option_and_then};
+ghost use Rattle.serde_json.specs.Find.{get, get_member, as_array, as_bool, as_number, as_object, as_str, as_u64};
+ghost use Rattle.p2p_sim_script.specs.View.{view, items_view, members_view};
 
-use crate::error::ReadError;
-use crate::number::read_number;
-use json::{Reader, Token};
-use serde_json::{Map, Value};
-use std::alloc::Global;
+use serde_json::Number;
 
-/// The next value of the reader, as serde_json reads it. Arrays and objects may nest `depth` deep.
-#[cycle(read)]
-pub(crate) fn read_value(
-    alloc: Global,
-    reader: &mut Reader<'_>,
-    depth: usize,
-) -> Result<Value, ReadError>
-    ensures ok { IfOk result (λ v. value_taken depth reader.old ≡ Some (view v, reader.new)) }
-    ensures shorter { OnOk result (length reader.new < length reader.old) }
-    ensures not_json { result ≡ Err ReadError.NotJson → value_taken depth reader.old ≡ None }
-{
-    let token = reader.next().ok_or(ReadError::NotJson)?;
-    read_from(alloc, token, reader, depth)
+/// A JSON value. An object keeps its members in the order of the text, and each one of a name that comes twice.
+#[derive(Drop)]
+pub(crate) enum Value<'a> {
+    Null,
+    Bool(bool),
+    Number(Number),
+    String(&'a str),
+    Array(Vec<Value<'a>>),
+    Object(Vec<(&'a str, Value<'a>)>),
 }
 
-/// The value whose first token is `token`, and whose others are next.
-#[cycle(read)]
-pub(crate) fn read_from(
-    alloc: Global,
-    token: Token<'_>,
-    reader: &mut Reader<'_>,
-    depth: usize,
-) -> Result<Value, ReadError>
-    ensures ok { IfOk result (λ v. value_taken depth (token_of token.entry ∷ reader.old) ≡ Some (view v, reader.new)) }
-    ensures within { OnOk result (length reader.new ≤ length reader.old) }
-    ensures not_json { result ≡ Err ReadError.NotJson → value_taken depth (token_of token.entry ∷ reader.old) ≡ None }
-{
-    match token {
-        Token::String(text) => Ok(Value::String(String::from_str(alloc, text)?)),
-        Token::Number(text) => match read_number(text) {
-            Some(number) => Ok(Value::Number(number)),
-            None => Err(ReadError::NotJson),
-        },
-        Token::Bool(flag) => Ok(Value::Bool(flag)),
-        Token::Null => Ok(Value::Null),
-        Token::EndObject | Token::EndArray | Token::Key(_) | Token::Bad => Err(ReadError::NotJson),
-        Token::BeginArray => {
-            if depth == 0 {
-                return Err(ReadError::NotJson);
-            }
-            Ok(Value::Array(read_items(alloc, reader, depth - 1)?))
-        }
-        Token::BeginObject => {
-            if depth == 0 {
-                return Err(ReadError::NotJson);
-            }
-            Ok(Value::Object(read_members(alloc, reader, depth - 1)?))
+impl<'a> Value<'a> {
+    pub(crate) fn as_bool(&self) -> Option<bool>
+        ensures { result ≡ as_bool (view self.now) }
+    {
+        if let Value::Bool(flag) = self {
+            Some(*flag)
+        } else {
+            None
         }
     }
+
+    pub(crate) fn as_u64(&self) -> Option<u64>
+        ensures { result ≡ option_and_then as_u64 (as_number (view self.now)) }
+    {
+        if let Value::Number(number) = self {
+            number.as_u64()
+        } else {
+            None
+        }
+    }
+
+    pub(crate) fn as_str(&self) -> Option<&'a str>
+        ensures { option_map (λ s. s.now) result ≡ as_str (view self.now) }
+    {
+        if let Value::String(text) = self {
+            Some(*text)
+        } else {
+            None
+        }
+    }
+
+    pub(crate) fn as_array(&self) -> Option<&[Value<'a>]>
+        ensures { option_map (λ v. items_view v.now) result ≡ as_array (view self.now) }
+    {
+        if let Value::Array(items) = self {
+            Some(items.as_slice())
+        } else {
+            None
+        }
+    }
+
+    pub(crate) fn as_object(&self) -> Option<&[(&'a str, Value<'a>)]>
+        ensures { option_map (λ m. members_view m.now) result ≡ as_object (view self.now) }
+    {
+        if let Value::Object(members) = self {
+            Some(members.as_slice())
+        } else {
+            None
+        }
+    }
+
+    /// The member of that name, where this is an object: of two the later one.
+    pub(crate) fn get(&self, name: &str) -> Option<&Value<'a>>
+        ensures { option_map (λ v. view v.now) result ≡ get name.now (view self.now) }
+    {
+        if let Value::Object(members) = self {
+            find(members, name)
+        } else {
+            None
+        }
+    }
 }
 
-/// The items that an array has left, and the bracket that closes it.
-#[cycle(read)]
-pub(crate) fn read_items(
-    alloc: Global,
-    reader: &mut Reader<'_>,
-    depth: usize,
-) -> Result<Vec<Value>, ReadError>
-    ensures ok { IfOk result (λ v. items_taken depth reader.old ≡ Some (items_view v.items, reader.new)) }
-    ensures within { OnOk result (length reader.new ≤ length reader.old) }
-    ensures not_json { result ≡ Err ReadError.NotJson → items_taken depth reader.old ≡ None }
+fn find<'v, 'a>(members: &'v [(&'a str, Value<'a>)], name: &str) -> Option<&'v Value<'a>>
+    ensures { option_map (λ v. view v.now) result ≡ get_member name.now (members_view members.now) }
 {
-    let mut found = Vec::new(alloc);
-    'items: while !reader.take_end_array() {
-        let item = read_value(alloc, reader, depth)?;
-        found.push(item)?;
+    let mut left = members.len();
+    'members: while left > 0 {
+        left -= 1;
+        let member = &members[left];
+        if member.0 == name {
+            return Some(&member.1);
+        }
     }
-    Ok(found)
-}
-
-// The members that an object has left, and the brace that closes it.
-#[cycle(read)]
-fn read_members(
-    alloc: Global,
-    reader: &mut Reader<'_>,
-    depth: usize,
-) -> Result<Map<String, Value>, ReadError>
-    ensures ok { IfOk result (λ m. members_taken depth no_members reader.old ≡ Some (members_view m.entries, reader.new)) }
-    ensures within { OnOk result (length reader.new ≤ length reader.old) }
-    ensures not_json { result ≡ Err ReadError.NotJson → members_taken depth no_members reader.old ≡ None }
-{
-    let mut found = Map::new(alloc);
-    'members: while let Some(name) = reader.next_key()? {
-        let key = String::from_str(alloc, name)?;
-        let member = read_value(alloc, reader, depth)?;
-        drop(found.insert(key, member)?);
-    }
-    Ok(found)
+    None
 }

@@ -1,7 +1,7 @@
 -- A list of another length is no pair.
 use Rattle.std.proofs.Common.{◌≡◌, List, [], ◌∷◌, length, None, refl}
-use Rattle.serde_json.specs.View.{items_view}
-use Rattle.serde_json.specs.declared.value.Value.{Value}
+use Rattle.p2p_sim_script.specs.View.{items_view}
+use Rattle.p2p_sim_script.specs.declared.value.Value.{Value}
 use Rattle.p2p_sim_script.specs.AddressForm.{pair_in}
 use Rattle.p2p_sim_script.proofs.address.read_pair.Goals as goal
 

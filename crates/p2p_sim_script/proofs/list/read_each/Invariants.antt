@@ -1,6 +1,6 @@
 -- What is read so far, and then what is left to read, is the whole.
 use Rattle.std.proofs.Common.{◌≡◌, ◌++◌, drop, option_map}
-use Rattle.serde_json.specs.View.{items_view}
+use Rattle.p2p_sim_script.specs.View.{items_view}
 use Rattle.p2p_sim_script.specs.Tree.{each}
 use Rattle.p2p_sim_script.proofs.list.read_each.Given as goal
 

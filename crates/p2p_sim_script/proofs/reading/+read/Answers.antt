@@ -5,12 +5,13 @@ use Rattle.json.specs.Reads.{token_of}
 use Rattle.json.proofs.Grammar.{value_is, read_key-shorter}
 use Rattle.serde_json.specs.Data.{null, boolean, number, string, array, object, no_members, put}
 use Rattle.serde_json.specs.Read.{of_json, converted}
-use Rattle.serde_json.specs.View.{view, number_view, members_view}
-use Rattle.serde_json.specs.declared.value.Value.{String, Number, Bool, Null, the_lemmas}
-use Rattle.serde_json.proofs.Views.{view-Array, view-Object, members_view-insert_entry}
+use Rattle.serde_json.specs.View.{number_view}
 use Rattle.p2p_sim_script.specs.Taken.{value_taken, items_taken, members_taken}
+use Rattle.p2p_sim_script.specs.View.{view, members_view}
+use Rattle.p2p_sim_script.specs.declared.value.Value.{String, Number, Bool, Null, the_lemmas}
+use Rattle.p2p_sim_script.proofs.Views.{view-Array, view-Object, members_view-push}
 use Rattle.p2p_sim_script.proofs.Taking.{value_taken-none, value_taken-string, value_taken-number, value_taken-no_number, value_taken-boolean, value_taken-null, value_taken-too_deep_array, value_taken-too_deep_object, value_taken-array, value_taken-object, items_taken-end, items_taken-more, items_taken-refused, members_taken-end, members_taken-no_key, members_taken-more, members_taken-refused, items_before, items_before-none, items_before-more}
-use Rattle.p2p_sim_script.proofs.value.+read.Goals as goal
+use Rattle.p2p_sim_script.proofs.reading.+read.Goals as goal
 
 pub read_value-returns-in_err-token-clause-not_json : goal.read_value-returns-in_err-token-clause-not_json
 read_value-returns-in_err-token-clause-not_json t c refused =
@@ -39,11 +40,11 @@ read_from-returns-in_err-read_members-in-BeginObject-clause-not_json t c refused
     let r = c.args.reader.now in
     ap (λ k. value_taken d (token_of k ∷ r)) c.in-BeginObject.is ∙ value_taken-object d r (omega arith) ∙ ap (parse_map object) (c.read_members.ensures.not_json (grind arith))
 
-pub read_from-returns-in_ok-from_str-in-String-clause-ok : goal.read_from-returns-in_ok-from_str-in-String-clause-ok
-read_from-returns-in_ok-from_str-in-String-clause-ok t c =
+pub read_from-returns-in-String-clause-ok : goal.read_from-returns-in-String-clause-ok
+read_from-returns-in-String-clause-ok t c =
     let d = c.args.depth in
     let r = c.args.reader.now in
-    let seen : view (String c.in_ok-from_str-in-String.field-0) ≡ string c.in-String.text.now = search (rules, the_lemmas) in
+    let seen : view (String c.in-String.text) ≡ string c.in-String.text.now = search (rules, the_lemmas) in
     ap (λ k. value_taken d (token_of k ∷ r)) c.in-String.is ∙ value_taken-string d c.in-String.text.now r ∙ ap (λ x. Some (x, r)) (sym seen)
 
 pub read_from-returns-in-Some-clause-ok : goal.read_from-returns-in-Some-clause-ok
@@ -125,7 +126,7 @@ read_items-returns-clause-ok t c =
 pub read_members-returns-in_err-name-clause-not_json : goal.read_members-returns-in_err-name-clause-not_json
 read_members-returns-in_err-name-clause-not_json t c refused =
     let l = c.members in
-    l.invariant.0 ∙ members_taken-no_key c.args.depth (members_view l.found.entries) l.reader c.in_err-name.ensures.value
+    l.invariant.0 ∙ members_taken-no_key c.args.depth (members_view l.found.items) l.reader c.in_err-name.ensures.value
 
 pub read_members-returns-in_err-member-clause-not_json : goal.read_members-returns-in_err-member-clause-not_json
 read_members-returns-in_err-member-clause-not_json t c refused =
@@ -133,12 +134,12 @@ read_members-returns-in_err-member-clause-not_json t c refused =
     let k = c.in-Some.name.now in
     let s = c.next_key.new.self in
     let named : read_key l.reader ≡ Some (Some k, s) = grind arith in
-    l.invariant.0 ∙ members_taken-refused c.args.depth (members_view l.found.entries) k l.reader s named (c.read_value.ensures.not_json (grind arith))
+    l.invariant.0 ∙ members_taken-refused c.args.depth (members_view l.found.items) k l.reader s named (c.read_value.ensures.not_json (grind arith))
 
 pub read_members-members-preserved : goal.read_members-members-preserved
 read_members-members-preserved t c =
     let l = c.members in
-    let old = members_view l.found.entries in
+    let old = members_view l.found.items in
     let k = c.in-Some.name.now in
     let s = c.next_key.new.self in
     let named : read_key l.reader ≡ Some (Some k, s) = grind arith in
@@ -147,14 +148,13 @@ read_members-members-preserved t c =
     let r = c.read_value.new.reader in
     let less = read_key-shorter l.reader (Some k) s named in
     let lesser = done.shorter in
-    let copied : string_bytes c.in_ok-key.key ≡ k = search rules in
-    let inserted : members_view c.insert.new.self.entries ≡ put k (view v) old =
-    ap members_view c.in_ok-insert.ensures.entries ∙ members_view-insert_entry l.found.entries c.in_ok-key.key v ∙ ap (λ name. put name (view v) old) copied in (
-      l.invariant.0 ∙ members_taken-more c.args.depth old k l.reader s r (view v) named done.ok ∙ ap (λ found. members_taken c.args.depth found r) (sym inserted),
+    let pushed : members_view c.push.new.self.items ≡ put k (view v) old =
+    ap members_view c.in_ok-push.ensures.items ∙ members_view-push l.found.items (c.in-Some.name, v) in (
+      l.invariant.0 ∙ members_taken-more c.args.depth old k l.reader s r (view v) named done.ok ∙ ap (λ found. members_taken c.args.depth found r) (sym pushed),
       omega (arith, l.invariant.1, less, lesser),
     )
 
 pub read_members-returns-clause-ok : goal.read_members-returns-clause-ok
 read_members-returns-clause-ok t c =
     let l = c.members in
-    l.invariant.0 ∙ members_taken-end c.args.depth (members_view l.found.entries) l.reader c.next_key.new.self (grind arith)
+    l.invariant.0 ∙ members_taken-end c.args.depth (members_view l.found.items) l.reader c.next_key.new.self (grind arith)
