@@ -1,4 +1,5 @@
 mod Idle
 mod Resting
+pub mod Sizing
 mod Taking
 mod Worked
