@@ -64,12 +64,3 @@ module _ {P : Type 0} {cmp : P → P → Ordering} {kept : Kept P} {calls : List
       → reserves cmp kept q ≡ (not (is_local cmp rules q) && waits)
   reserved-by rules q waits e h =
       reserved-known q ∙ ap (λ r. not (is_local cmp r q) && (is_held cmp calls q && not (is_connected cmp r calls q))) e ∙ ap (λ b. not (is_local cmp rules q) && b) h
-
-and_false : (b : Bool) → (b && false) ≡ false
-and_false true = refl
-and_false false = refl
-
--- before the first call nobody is held
-pub held-first : {P : Type 0} {cmp : P → P → Ordering} {kept : Kept P} → StandsFor cmp kept [] → (q : P) → holds cmp kept q ≡ false
-unfolding is_held
-held-first {cmp = cmp} {kept = kept} s q = held-by s kept.rules q false refl refl ∙ and_false (not (is_local cmp kept.rules q))

@@ -1,5 +1,4 @@
 mod Idle
 mod Resting
-pub mod Sizing
 mod Taking
 mod Worked

@@ -6,7 +6,7 @@ ghost use Rattle.p2p_tracker_mailbox.specs.declared.answer.HandshakeItem.TheVari
 ghost use Rattle.p2p_tracker_mailbox.specs.declared.message.Message.TheVariants as message;
 
 use crate::waiting::Waiting;
-use crate::{Access, Desk, DialerAnswer, HandshakeItem, Handshakes, Message};
+use crate::{Desk, DialerAnswer, HandshakeItem, Handshakes, Message};
 use p2p_address::IpAddr;
 use p2p_base::{Feedback, List, NoRoom, PublicKey, Set};
 use p2p_flow::{PeerSetUpdate, TrackedPeers};
@@ -60,7 +60,7 @@ impl<P: PublicKey> Mailbox<P> {
     pub fn close(&mut self)
         ensures { self.new ≡ closed_mailbox self.old }
     {
-        self.desk.close(&Access(()));
+        self.desk.close();
         self.dialer.clear();
         self.handshakes.clear();
         self.heard = None;
@@ -71,7 +71,7 @@ impl<P: PublicKey> Mailbox<P> {
         ensures value { result ≡ next_message self.old.desk }
         ensures after { self.new ≡ with_desk self.old (without_message self.old.desk) }
     {
-        self.desk.take(&Access(()))
+        self.desk.take()
     }
 
     /// Whether the tracker has ended.
@@ -91,8 +91,7 @@ impl<P: PublicKey> Mailbox<P> {
         ensures after { OnOk result (self.new ≡ with_message_in self.old (message.Connect public_key conn)) }
         ensures memory { OnErr result (self.new ≡ self.old) }
     {
-        self.desk
-            .put(&Access(()), Message::Connect { public_key, conn })
+        self.desk.put(Message::Connect { public_key, conn })
     }
 
     /// Asks the tracker which peers may be dialed. Tells what became of the message.
@@ -105,7 +104,7 @@ impl<P: PublicKey> Mailbox<P> {
         ensures after { OnOk result (self.new ≡ with_message_in self.old message.Dialable) }
         ensures memory { OnErr result (self.new ≡ self.old) }
     {
-        self.desk.put(&Access(()), Message::Dialable)
+        self.desk.put(Message::Dialable)
     }
 
     /// Asks the tracker to reserve a peer that is to be dialed. Tells what became of the message.
@@ -118,7 +117,7 @@ impl<P: PublicKey> Mailbox<P> {
         ensures after { OnOk result (self.new ≡ with_message_in self.old (message.Dial public_key)) }
         ensures memory { OnErr result (self.new ≡ self.old) }
     {
-        self.desk.put(&Access(()), Message::Dial { public_key })
+        self.desk.put(Message::Dial { public_key })
     }
 
     /// Asks the tracker whether a peer may connect from `source_ip`, for a handshake. Tells what became of the message.
@@ -136,14 +135,11 @@ impl<P: PublicKey> Mailbox<P> {
         ensures after { OnOk result (self.new ≡ with_message_in self.old (message.Acceptable public_key source_ip handshake)) }
         ensures memory { OnErr result (self.new ≡ self.old) }
     {
-        self.desk.put(
-            &Access(()),
-            Message::Acceptable {
-                public_key,
-                source_ip,
-                handshake,
-            },
-        )
+        self.desk.put(Message::Acceptable {
+            public_key,
+            source_ip,
+            handshake,
+        })
     }
 
     /// Asks the tracker to reserve a peer that has connected from `source_ip`, for a handshake. Tells what became of the message.
@@ -161,14 +157,11 @@ impl<P: PublicKey> Mailbox<P> {
         ensures after { OnOk result (self.new ≡ with_message_in self.old (message.Listen public_key source_ip handshake)) }
         ensures memory { OnErr result (self.new ≡ self.old) }
     {
-        self.desk.put(
-            &Access(()),
-            Message::Listen {
-                public_key,
-                source_ip,
-                handshake,
-            },
-        )
+        self.desk.put(Message::Listen {
+            public_key,
+            source_ip,
+            handshake,
+        })
     }
 
     /// Gives a reservation back to the tracker. Tells what became of the message.
@@ -186,7 +179,7 @@ impl<P: PublicKey> Mailbox<P> {
         ensures memory { OnErr result (self.new ≡ self.old) }
     {
         let metadata = *reservation.metadata();
-        match self.desk.put(&Access(()), Message::Release { metadata }) {
+        match self.desk.put(Message::Release { metadata }) {
             Ok(told) => Ok(told),
             Err(_) => Err(NoRoom(reservation)),
         }
@@ -198,7 +191,7 @@ impl<P: PublicKey> Mailbox<P> {
     pub fn answer_peer_set(&mut self, ticket: u64, peers: Option<TrackedPeers<P>>)
         ensures { self.new ≡ with_desk self.old (answered_at self.old.desk ticket peers) }
     {
-        self.desk.answer_peer_set(&Access(()), ticket, peers);
+        self.desk.answer_peer_set(ticket, peers);
     }
 
     /// Puts an update for a subscription, behind those that wait for it. Where there is no such subscription it is dropped.
@@ -208,7 +201,7 @@ impl<P: PublicKey> Mailbox<P> {
         ensures after { OnOk result (self.new ≡ with_desk self.old (with_update self.old.desk ticket update)) }
         ensures memory { OnErr result (self.new ≡ self.old) }
     {
-        self.desk.put_update(&Access(()), ticket, update)
+        self.desk.put_update(ticket, update)
     }
 
     /// Puts a set of blocked keys for a subscription, and hands out the one that makes way for it. Where there is no such
@@ -217,7 +210,7 @@ impl<P: PublicKey> Mailbox<P> {
         ensures value { result ≡ set_of self.old.desk ticket }
         ensures after { self.new ≡ with_desk self.old (with_set self.old.desk ticket set) }
     {
-        self.desk.put_blocked(&Access(()), ticket, set)
+        self.desk.put_blocked(ticket, set)
     }
 
     /// Answers the dialer.
