@@ -1,4 +1,5 @@
 pub mod Beginning
 pub mod Gathering
 pub mod Hearing
+pub mod Opening
 pub mod Routing

@@ -1,5 +1,5 @@
 //! `write_frames`, with which a connection writes to its link.
-ghost use Rattle.std.specs.Prelude.{◌≡◌, ◌≤◌, ◌<◌, ◌++◌, length, take as first_of, IfOk};
+ghost use Rattle.std.specs.Prelude.{◌≡◌, ◌≤◌, ◌<◌, ◌++◌, cond, length, take as first_of, IfOk, IfSome};
 ghost use Rattle.p2p_runtime.specs.Streams.{Rose};
 
 use bytes::Bytes;
@@ -17,6 +17,7 @@ pub fn write_frames<L: Link>(
     ensures fault { IfOk result (λ n. n < length frames.now → Rose (L.faults_of link.old) (L.faults_of link.new)) }
     ensures no_fault { IfOk result (λ n. n ≡ length frames.now → L.faults_of link.new ≡ L.faults_of link.old) }
     ensures count { L.faults_of link.old ≤ L.faults_of link.new }
+    ensures told { IfOk result (λ n. IfSome (L.write_fails link.old) (λ b. n ≡ cond b 0 (length frames.now))) }
     ensures waiting { L.waiting link.new ≡ L.waiting link.old }
 {
     let mut written = 0;

@@ -1,5 +1,5 @@
 //! `Actor`, one connection: its two halves take one input a step.
-ghost use Rattle.std.specs.Prelude.{◌≡◌, ◌≤◌, ◌++◌, [], length, false, not, None, Some, take as first_of, IfOk, IfErr, OnOk, OnErr, IsErr, IsTrue};
+ghost use Rattle.std.specs.Prelude.{◌≡◌, ◌≤◌, ◌++◌, ◌&&◌, [], cond, length, false, not, None, Some, take as first_of, IfOk, IfErr, IfSome, OnOk, OnErr, IsErr, IsTrue};
 ghost use Rattle.std.specs.Borrow.{sem};
 ghost use Rattle.p2p_runtime.specs.Streams.{Rose};
 ghost use Rattle.p2p_tracker_directory.specs.Reserved.{peer_of};
@@ -163,6 +163,7 @@ impl<P: PublicKey> Actor<P> {
         ensures within { IfOk result (λ s. written_in s ≤ length (frames_in s)) }
         ensures fault { IfOk result (λ s. IsTrue (send_fails s) → Rose (L.faults_of link.old) (L.faults_of link.new)) }
         ensures no_fault { IfOk result (λ s. send_fails s ≡ false → L.faults_of link.new ≡ L.faults_of link.old) }
+        ensures told { IfOk result (λ s. IfSome (L.write_fails link.old) (λ b. written_in s ≡ cond b 0 (length (frames_in s)))) }
         ensures memory { OnErr result (IsTrue self.new.failed) }
         ensures failed { IsTrue self.old.failed → IsErr result }
     {
@@ -196,6 +197,7 @@ impl<P: PublicKey> Actor<P> {
         ensures within { IfOk result (λ s. written_in s ≤ length (frames_in s)) }
         ensures fault { IfOk result (λ s. IsTrue (send_fails s) → Rose (L.faults_of link.old) (L.faults_of link.new)) }
         ensures no_fault { IfOk result (λ s. send_fails s ≡ false → L.faults_of link.new ≡ L.faults_of link.old) }
+        ensures told { IfOk result (λ s. IfSome (L.write_fails link.old) (λ b. written_in s ≡ cond b 0 (length (frames_in s)))) }
         ensures failed { self.new.failed ≡ self.old.failed }
     {
         let Some(mut live) = self.live.take() else {
@@ -246,6 +248,7 @@ impl<P: PublicKey> Actor<P> {
         ensures fault { IfOk result (λ s. IsTrue (receive_fails s) →
             Rose (L.faults_of link.old) (L.faults_of link.new)) }
         ensures no_fault { IfOk result (λ s. receive_fails s ≡ false → L.faults_of link.new ≡ L.faults_of link.old) }
+        ensures told { IfOk result (λ s. IfSome (L.read_fails link.old) (λ b. receive_fails s ≡ (reads_from self.old.live && b))) }
         ensures memory { OnErr result (IsTrue self.new.failed) }
         ensures failed { IsTrue self.old.failed → IsErr result }
     {
@@ -284,6 +287,7 @@ impl<P: PublicKey> Actor<P> {
         ensures fault { IfOk result (λ s. IsTrue (receive_fails s) →
             Rose (L.faults_of link.old) (L.faults_of link.new)) }
         ensures no_fault { IfOk result (λ s. receive_fails s ≡ false → L.faults_of link.new ≡ L.faults_of link.old) }
+        ensures told { IfOk result (λ s. IfSome (L.read_fails link.old) (λ b. receive_fails s ≡ (reads_from self.old.live && b))) }
         ensures failed { self.new.failed ≡ self.old.failed }
     {
         let Some(mut live) = self.live.take() else {

@@ -1,5 +1,5 @@
 //! What the receiving half of a connection takes, and what becomes of it.
-ghost use Rattle.std.specs.Prelude.{◌≡◌, ◌≤◌, [], true, false, None, IfOk, IfSome, OnOk, IsSome, IsTrue, is_err};
+ghost use Rattle.std.specs.Prelude.{◌≡◌, ◌≤◌, ◌&&◌, [], true, false, None, IfOk, IfSome, OnOk, IsSome, IsTrue, is_err};
 ghost use Rattle.p2p_flow_connection.specs.Delivering.{after_deliver};
 ghost use Rattle.p2p_peer_shared.specs.Hearing.{left_waiting};
 ghost use Rattle.p2p_runtime.specs.Streams.{Rose};
@@ -192,6 +192,7 @@ impl<P: PublicKey> Live<P> {
         ensures no_fault { IfOk result (λ s. receive_fails s ≡ false → L.faults_of link.new ≡ L.faults_of link.old) }
         ensures waiting { IfOk result (λ s. receive_fails s ≡ false →
             L.waiting link.new ≡ left_waiting (reads self.old) (L.waiting link.old)) }
+        ensures told { IfOk result (λ s. IfSome (L.read_fails link.old) (λ b. receive_fails s ≡ (reads self.old && b))) }
         ensures in_flight { L.in_flight link.new ≡ L.in_flight link.old }
         ensures count { L.faults_of link.old ≤ L.faults_of link.new }
     {

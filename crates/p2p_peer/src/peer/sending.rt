@@ -1,5 +1,5 @@
 //! What the sending half of a connection takes and writes.
-ghost use Rattle.std.specs.Prelude.{◌≡◌, ◌≤◌, ◌+◌, ◌++◌, false, cond, if◌then◌else◌, length, take as first_of, IfOk, OnOk, IsTrue};
+ghost use Rattle.std.specs.Prelude.{◌≡◌, ◌≤◌, ◌+◌, ◌++◌, false, cond, if◌then◌else◌, length, take as first_of, IfOk, IfSome, OnOk, IsTrue};
 ghost use Rattle.p2p_runtime.specs.Streams.{Rose};
 ghost use Rattle.p2p_router.specs.Connections.{relay_at};
 ghost use Rattle.p2p_peer.specs.Sending.{ping_first, wrote, sent_as, sent_by, stage_by, with_stage, control_by, router_by, frames_in, written_in, send_fails};
@@ -43,6 +43,7 @@ fn write_batch<P: PublicKey, L: Link>(
     ensures fault { IfOk result (λ s. IsTrue (send_fails s) → Rose (L.faults_of link.old) (L.faults_of link.new)) }
     ensures no_fault { IfOk result (λ s. send_fails s ≡ false → L.faults_of link.new ≡ L.faults_of link.old) }
     ensures count { L.faults_of link.old ≤ L.faults_of link.new }
+    ensures told { IfOk result (λ s. IfSome (L.write_fails link.old) (λ b. written_in s ≡ cond b 0 (length (frames_in s)))) }
     ensures waiting { L.waiting link.new ≡ L.waiting link.old }
 {
     let written = write_frames(alloc, link, frames.as_slice())?;
@@ -84,6 +85,7 @@ impl<P: PublicKey> Live<P> {
         ensures fault { IfOk result (λ s. IsTrue (send_fails s) → Rose (L.faults_of link.old) (L.faults_of link.new)) }
         ensures no_fault { IfOk result (λ s. send_fails s ≡ false → L.faults_of link.new ≡ L.faults_of link.old) }
         ensures count { L.faults_of link.old ≤ L.faults_of link.new }
+        ensures told { IfOk result (λ s. IfSome (L.write_fails link.old) (λ b. written_in s ≡ cond b 0 (length (frames_in s)))) }
         ensures waiting { L.waiting link.new ≡ L.waiting link.old }
     {
         match self.stage {
@@ -144,6 +146,7 @@ fn send_gathered<P: PublicKey, L: Link>(
     ensures fault { IfOk result (λ s. IsTrue (send_fails s) → Rose (L.faults_of link.old) (L.faults_of link.new)) }
     ensures no_fault { IfOk result (λ s. send_fails s ≡ false → L.faults_of link.new ≡ L.faults_of link.old) }
     ensures count { L.faults_of link.old ≤ L.faults_of link.new }
+    ensures told { IfOk result (λ s. IfSome (L.write_fails link.old) (λ b. written_in s ≡ cond b 0 (length (frames_in s)))) }
     ensures waiting { L.waiting link.new ≡ L.waiting link.old }
 {
     match gathered {
