@@ -1,5 +1,5 @@
 -- The tests of a directory, by the calls that it stands for.
-use Rattle.std.proofs.Common.{◌≡◌, Bool, true, false, cond, ◌&&◌, not, List, Option, Some, None, refl, sym, ap, ◌∙◌}
+use Rattle.std.proofs.Common.{◌≡◌, Bool, true, false, cond, ◌&&◌, not, List, [], Option, Some, None, refl, sym, ap, ◌∙◌}
 use Rattle.std.proofs.lemmas.Bool.{or_parts}
 use Rattle.std.specs.Prelude.{is_some}
 use Rattle.std.specs.Option.{option_map}
@@ -64,3 +64,12 @@ module _ {P : Type 0} {cmp : P → P → Ordering} {kept : Kept P} {calls : List
       → reserves cmp kept q ≡ (not (is_local cmp rules q) && waits)
   reserved-by rules q waits e h =
       reserved-known q ∙ ap (λ r. not (is_local cmp r q) && (is_held cmp calls q && not (is_connected cmp r calls q))) e ∙ ap (λ b. not (is_local cmp rules q) && b) h
+
+and_false : (b : Bool) → (b && false) ≡ false
+and_false true = refl
+and_false false = refl
+
+-- before the first call nobody is held
+pub held-first : {P : Type 0} {cmp : P → P → Ordering} {kept : Kept P} → StandsFor cmp kept [] → (q : P) → holds cmp kept q ≡ false
+unfolding is_held
+held-first {cmp = cmp} {kept = kept} s q = held-by s kept.rules q false refl refl ∙ and_false (not (is_local cmp kept.rules q))

@@ -3,38 +3,34 @@ use Rattle.std.specs.Prelude.{ℕ, Bool, true, false, List, [], Option, Some, No
 use Rattle.std.specs.BTreeMap.{insert_entry, is_at}
 use Rattle.std.specs.Map.{lookup, remove_entry}
 use Rattle.std.specs.Ordering.{nat_cmp}
-use Rattle.p2p_base.specs.Outcome.{outcome_of}
-use Rattle.p2p_base.specs.Queue.{Queue, empty_queue, enqueue_answer, enqueued, without_oldest, closed_queue}
-use Rattle.p2p_base.specs.declared.outcome.Unreliable.{Unreliable}
-use Rattle.p2p_base.specs.declared.policy.Keep.TheVariants.{Append}
+use Rattle.p2p_tracker_mailbox.specs.Desk.{DeskOf, new_desk, ended, without_message as taken_from, with_message as put_at}
 use Rattle.p2p_discovery_directory.specs.declared.tracker.answer.Answer.{Answer}
 use Rattle.p2p_discovery_directory.specs.declared.tracker.answer.Answer.TheVariants as answer
 use Rattle.p2p_discovery_directory.specs.declared.tracker.message.Message.{Message}
 
--- the messages that wait for the tracker, which has ended once they are closed; and the answers that connections haven't taken, by
--- their numbers
+-- the desk, with the messages that wait for the tracker; and the answers that connections haven't taken, by their numbers
 pub record Way (P : Type 0) : Type 0 where
-  pub messages : Queue (Message P)
+  pub desk : DeskOf P (Message P)
   pub answers : List (ℕ × Answer P)
 
 module _ {P : Type 0} where
   abbrev pub new_way : ℕ → Way P
-  new_way size = record { messages = empty_queue size; answers = [] }
+  new_way size = record { desk = new_desk size; answers = [] }
 
-  -- once the tracker has ended: nothing waits
+  -- once the tracker has ended: nothing waits but for those who asked by an oracle
   abbrev pub closed_way : Way P → Way P
-  closed_way w = record { messages = closed_queue w.messages; answers = [] }
+  closed_way w = record { desk = ended w.desk; answers = [] }
+
+  -- with this desk in place of its own
+  abbrev pub with_desk : Way P → DeskOf P (Message P) → Way P
+  with_desk w d = record { desk = d; answers = w.answers }
 
   abbrev pub without_message : Way P → Way P
-  without_message w = record { messages = without_oldest w.messages; answers = w.answers }
-
-  -- what is told of one more message: one that finds the mailbox full overflows
-  abbrev pub heard_of : Way P → Message P → Unreliable
-  heard_of w m = outcome_of (enqueue_answer Append w.messages m)
+  without_message w = with_desk w (taken_from w.desk)
 
   -- after a message was put last; a mailbox that is closed drops it
   abbrev pub with_message : Way P → Message P → Way P
-  with_message w m = record { messages = enqueued Append w.messages m; answers = w.answers }
+  with_message w m = with_desk w (put_at w.desk m)
 
   -- the answer that waits for a connection
   abbrev pub answer_in : List (ℕ × Answer P) → ℕ → Option (Answer P)
@@ -48,12 +44,12 @@ module _ {P : Type 0} where
 
   -- what a connection is answered, if it is
   abbrev pub answer_of : Way P → ℕ → Option (Answer P)
-  answer_of w conn = answered w.messages.closed (answer_in w.answers conn)
+  answer_of w conn = answered w.desk.messages.closed (answer_in w.answers conn)
 
   -- after a connection was answered
   abbrev pub with_answer : Way P → ℕ → Answer P → Way P
-  with_answer w conn a = record { messages = w.messages; answers = insert_entry nat_cmp w.answers conn a }
+  with_answer w conn a = record { desk = w.desk; answers = insert_entry nat_cmp w.answers conn a }
 
   -- after its answer was taken
   abbrev pub without_answer : Way P → ℕ → Way P
-  without_answer w conn = record { messages = w.messages; answers = remove_entry (is_at (nat_cmp conn)) w.answers }
+  without_answer w conn = record { desk = w.desk; answers = remove_entry (is_at (nat_cmp conn)) w.answers }

@@ -1,7 +1,7 @@
 -- What a step of the tracker comes to, and what it asks of the message that it takes.
 use Rattle.std.specs.Prelude.{◌≡◌, ℕ, Bool, true, false, not, ◌||◌, List, Some, None}
 use Rattle.std.specs.declared.cmp.Ordering.{Ordering}
-use Rattle.p2p_base.specs.Queue.{oldest}
+use Rattle.p2p_tracker_mailbox.specs.Desk.{next_message}
 use Rattle.p2p_discovery_directory.specs.declared.call.Call.TheVariants as call
 use Rattle.p2p_discovery_directory.specs.declared.tracker.message.Message.{Message}
 use Rattle.p2p_discovery_directory.specs.declared.tracker.message.Message.TheVariants as message
@@ -41,9 +41,9 @@ module _ {S P : Type 0} (due : S → P → ℕ → Bool) where
 module _ {S P : Type 0} (A : Answering S P) (eligible due : S → P → ℕ → Bool) (cmp : P → P → Ordering) (before : Tracking S P) (way : Way P) (now seed : ℕ) where
   -- blocks that have ended come first, and then the oldest message, if one waits
   abbrev pub IsStep : Stepped P → Tracking S P → Way P → Type 0
-  IsStep stepped.Idle after left = IsQuiet due before.directory now × (oldest way.messages ≡ None) × (after ≡ before) × (left ≡ without_message way)
+  IsStep stepped.Idle after left = IsQuiet due before.directory now × (next_message way.desk ≡ None) × (after ≡ before) × (left ≡ without_message way)
   IsStep (stepped.EndedBlocks p) after left = ((q : P) × (due before.directory q now ≡ true)) × (blocked : List P) × A.blocked after.directory now blocked
       × A.becomes before.directory (call.UnblockExpired now) after.directory
       × (p ≡ sets_put before.sets blocked) × (after ≡ with_directory before after.directory) × (left ≡ way)
-  IsStep (stepped.Message p) after left = IsQuiet due before.directory now × (m : Message P) × (oldest way.messages ≡ Some m)
+  IsStep (stepped.Message p) after left = IsQuiet due before.directory now × (m : Message P) × (next_message way.desk ≡ Some m)
       × IsServed A eligible cmp now seed before after m p × (left ≡ without_message way)

@@ -1,3 +1,4 @@
+pub mod Fits
 mod Idle
 mod Resting
 mod Taking

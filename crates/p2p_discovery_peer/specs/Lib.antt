@@ -2,9 +2,11 @@ pub mod Beginning
 pub mod Connection
 pub mod Judging
 pub mod Lends
+pub mod Networks
 pub mod Presets
 pub mod Ready
 pub mod Receiving
 pub mod Sending
+pub mod Sizing
 pub mod Sparing
 pub mod Spawning

@@ -6,7 +6,7 @@ ghost use Rattle.p2p_tracker_mailbox.specs.declared.answer.HandshakeItem.TheVari
 ghost use Rattle.p2p_tracker_mailbox.specs.declared.message.Message.TheVariants as message;
 
 use crate::waiting::Waiting;
-use crate::{Desk, DialerAnswer, HandshakeItem, Handshakes, Message};
+use crate::{Access, Desk, DialerAnswer, HandshakeItem, Handshakes, Message};
 use p2p_address::IpAddr;
 use p2p_base::{Feedback, List, NoRoom, PublicKey, Set};
 use p2p_flow::{PeerSetUpdate, TrackedPeers};
@@ -60,7 +60,7 @@ impl<P: PublicKey> Mailbox<P> {
     pub fn close(&mut self)
         ensures { self.new ≡ closed_mailbox self.old }
     {
-        self.desk.close();
+        self.desk.close(&Access(()));
         self.dialer.clear();
         self.handshakes.clear();
         self.heard = None;
@@ -71,7 +71,7 @@ impl<P: PublicKey> Mailbox<P> {
         ensures value { result ≡ next_message self.old.desk }
         ensures after { self.new ≡ with_desk self.old (without_message self.old.desk) }
     {
-        self.desk.take()
+        self.desk.take(&Access(()))
     }
 
     /// Whether the tracker has ended.
@@ -91,7 +91,8 @@ impl<P: PublicKey> Mailbox<P> {
         ensures after { OnOk result (self.new ≡ with_message_in self.old (message.Connect public_key conn)) }
         ensures memory { OnErr result (self.new ≡ self.old) }
     {
-        self.desk.put(Message::Connect { public_key, conn })
+        self.desk
+            .put(&Access(()), Message::Connect { public_key, conn })
     }
 
     /// Asks the tracker which peers may be dialed. Tells what became of the message.
@@ -104,7 +105,7 @@ impl<P: PublicKey> Mailbox<P> {
         ensures after { OnOk result (self.new ≡ with_message_in self.old message.Dialable) }
         ensures memory { OnErr result (self.new ≡ self.old) }
     {
-        self.desk.put(Message::Dialable)
+        self.desk.put(&Access(()), Message::Dialable)
     }
 
     /// Asks the tracker to reserve a peer that is to be dialed. Tells what became of the message.
@@ -117,7 +118,7 @@ impl<P: PublicKey> Mailbox<P> {
         ensures after { OnOk result (self.new ≡ with_message_in self.old (message.Dial public_key)) }
         ensures memory { OnErr result (self.new ≡ self.old) }
     {
-        self.desk.put(Message::Dial { public_key })
+        self.desk.put(&Access(()), Message::Dial { public_key })
     }
 
     /// Asks the tracker whether a peer may connect from `source_ip`, for a handshake. Tells what became of the message.
@@ -135,11 +136,14 @@ impl<P: PublicKey> Mailbox<P> {
         ensures after { OnOk result (self.new ≡ with_message_in self.old (message.Acceptable public_key source_ip handshake)) }
         ensures memory { OnErr result (self.new ≡ self.old) }
     {
-        self.desk.put(Message::Acceptable {
-            public_key,
-            source_ip,
-            handshake,
-        })
+        self.desk.put(
+            &Access(()),
+            Message::Acceptable {
+                public_key,
+                source_ip,
+                handshake,
+            },
+        )
     }
 
     /// Asks the tracker to reserve a peer that has connected from `source_ip`, for a handshake. Tells what became of the message.
@@ -157,11 +161,14 @@ impl<P: PublicKey> Mailbox<P> {
         ensures after { OnOk result (self.new ≡ with_message_in self.old (message.Listen public_key source_ip handshake)) }
         ensures memory { OnErr result (self.new ≡ self.old) }
     {
-        self.desk.put(Message::Listen {
-            public_key,
-            source_ip,
-            handshake,
-        })
+        self.desk.put(
+            &Access(()),
+            Message::Listen {
+                public_key,
+                source_ip,
+                handshake,
+            },
+        )
     }
 
     /// Gives a reservation back to the tracker. Tells what became of the message.
@@ -179,7 +186,7 @@ impl<P: PublicKey> Mailbox<P> {
         ensures memory { OnErr result (self.new ≡ self.old) }
     {
         let metadata = *reservation.metadata();
-        match self.desk.put(Message::Release { metadata }) {
+        match self.desk.put(&Access(()), Message::Release { metadata }) {
             Ok(told) => Ok(told),
             Err(_) => Err(NoRoom(reservation)),
         }
@@ -191,7 +198,7 @@ impl<P: PublicKey> Mailbox<P> {
     pub fn answer_peer_set(&mut self, ticket: u64, peers: Option<TrackedPeers<P>>)
         ensures { self.new ≡ with_desk self.old (answered_at self.old.desk ticket peers) }
     {
-        self.desk.answer_peer_set(ticket, peers);
+        self.desk.answer_peer_set(&Access(()), ticket, peers);
     }
 
     /// Puts an update for a subscription, behind those that wait for it. Where there is no such subscription it is dropped.
@@ -201,7 +208,7 @@ impl<P: PublicKey> Mailbox<P> {
         ensures after { OnOk result (self.new ≡ with_desk self.old (with_update self.old.desk ticket update)) }
         ensures memory { OnErr result (self.new ≡ self.old) }
     {
-        self.desk.put_update(ticket, update)
+        self.desk.put_update(&Access(()), ticket, update)
     }
 
     /// Puts a set of blocked keys for a subscription, and hands out the one that makes way for it. Where there is no such
@@ -210,7 +217,7 @@ impl<P: PublicKey> Mailbox<P> {
         ensures value { result ≡ set_of self.old.desk ticket }
         ensures after { self.new ≡ with_desk self.old (with_set self.old.desk ticket set) }
     {
-        self.desk.put_blocked(ticket, set)
+        self.desk.put_blocked(&Access(()), ticket, set)
     }
 
     /// Answers the dialer.

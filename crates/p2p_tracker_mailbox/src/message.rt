@@ -2,7 +2,7 @@
 ghost use Rattle.std.specs.Prelude.{◌≡◌, IfOk};
 ghost use Rattle.p2p_tracker_mailbox.specs.declared.message.Message.TheVariants as message;
 
-use crate::Metadata;
+use crate::{Access, Metadata, OracleMessage};
 use p2p_address::{Address, IpAddr};
 use p2p_base::{Keep, Map, Policy, PublicKey, UnreliablePolicy};
 use p2p_flow::AddressableTrackedPeers;
@@ -171,4 +171,39 @@ impl<P: PublicKey> Policy for Message<P> {
     ghost use Rattle.p2p_base.specs.declared.policy.Keep.TheVariants as keep;
 
     ghost never_refuses = { λ _. not_refused keep.Append refl };
+}
+
+impl<P: PublicKey> OracleMessage for Message<P> {
+    ghost use Rattle.std.specs.Prelude.{refl};
+    ghost use Rattle.p2p_tracker_mailbox.specs.declared.message.Message.TheVariants as message;
+
+    type PublicKey = P;
+
+    type Access = Access;
+
+    ghost asks = { λ index ticket. message.PeerSet index ticket };
+
+    ghost subscribes = { λ ticket. message.Subscribe ticket };
+
+    ghost blocks = { λ peer. message.Block peer };
+
+    ghost subscribes_blocked = { λ ticket. message.SubscribeBlocked ticket };
+
+    fn peer_set(index: u64, ticket: u64) -> Message<P> {
+        Message::PeerSet { index, ticket }
+    }
+
+    fn subscribe(ticket: u64) -> Message<P> {
+        Message::Subscribe { ticket }
+    }
+
+    fn block(peer: P) -> Message<P> {
+        Message::Block { public_key: peer }
+    }
+
+    fn subscribe_blocked(ticket: u64) -> Message<P> {
+        Message::SubscribeBlocked { ticket }
+    }
+
+    ghost appends = { λ _. refl };
 }

@@ -296,7 +296,8 @@ impl<P: PublicKey> DirectoryOf<P> for PlainDirectory<P> {
     {
         let held = named(metadata);
         self.peers.release(&held);
-        forget_ended(&mut self.places, &self.peers, metadata.public_key());
+        let peer = metadata.public_key();
+        forget_ended(&mut self.places, &self.peers, peer);
     }
 
     /// The peers of the set of an index. `None` exactly where no set of that index is kept. `Err` only where memory runs out.

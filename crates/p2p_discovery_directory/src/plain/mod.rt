@@ -1,5 +1,5 @@
 //! `PlainDirectory`, a directory of discovery over one of lookup.
-ghost use Rattle.std.specs.Prelude.{◌≡◌, ◌||◌, [], true, not, IfOk};
+ghost use Rattle.std.specs.Prelude.{◌≡◌, ◌||◌, [], true, false, not, IfOk};
 ghost use Rattle.p2p_tracker_calls.specs.Rules.{rules_of};
 ghost use Rattle.p2p_discovery_directory.specs.Plain.{Represents};
 ghost use Rattle.p2p_discovery_directory.specs.Tests.{holds, reserves, knows};
@@ -61,6 +61,7 @@ impl<P: PublicKey> PlainDirectory<P> {
         ensures rules { IfOk result (λ d. d.peers.rules ≡ record (rules_of own.public_key cfg) { bypass = true }) }
         ensures own { IfOk result (λ d. d.own ≡ own) }
         ensures stands { IfOk result (λ d. Represents P.cmp d []) }
+        ensures none_held { IfOk result (λ d. (q : P) → holds P.cmp d.peers q ≡ false) }
     {
         let untested = Config {
             bypass_ip_check: true,

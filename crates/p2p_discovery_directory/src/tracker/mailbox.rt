@@ -1,28 +1,34 @@
-//! `Mailbox`, what waits for the tracker, and what it answered connections.
+//! `Mailbox`, all that waits for the tracker, and what it answered connections and those who asked by an oracle.
 ghost use Rattle.std.specs.Prelude.{◌≡◌, ◌≤◌, IfOk, OnOk, OnErr};
-ghost use Rattle.p2p_base.specs.Queue.{oldest};
-ghost use Rattle.p2p_base.specs.declared.outcome.Unreliable.TheVariants.{Outcome};
-ghost use Rattle.p2p_discovery_directory.specs.Asking.{new_way, closed_way, without_message, heard_of, with_message, answer_of, with_answer, without_answer};
+ghost use Rattle.p2p_discovery_directory.specs.Asking.{new_way, closed_way, with_desk, without_message, with_message, answer_of, with_answer, without_answer};
+ghost use Rattle.p2p_tracker_mailbox.specs.Desk.{told_of, next_message, answered_at, with_update, set_of, with_set};
 ghost use Rattle.p2p_discovery_directory.specs.declared.tracker.message.Message.TheVariants as message;
 
-use super::{Answer, Message};
+use super::{Access, Answer, Desk, Message};
 use crate::Reservation;
-use p2p_base::{Feedback, List, NoRoom, PublicKey, Sent};
+use p2p_base::{Feedback, List, PublicKey, Set};
 use p2p_discovery::{BitVec, Info};
-use p2p_flow::TrackedPeers;
+use p2p_flow::{PeerSetUpdate, TrackedPeers};
 use std::alloc::{AllocError, Global};
 use std::collections::BTreeMap;
 use std::marker::Model;
 
-/// The messages that wait for the tracker, and its answers to connections that began.
-///
-/// The oldest messages stand in the ready places, and the others in the overflow: while the tracker runs, none is refused.
+/// All that waits for the tracker, and its answers to connections that began.
 ///
 /// Ports `Mailbox` of commonware-p2p's discovery tracker, together with the channels on which the tracker answers.
-#[derive(Drop)]
 pub struct Mailbox<P: PublicKey> {
-    messages: p2p_base::Mailbox<Message<P>>,
+    /// What an oracle is lent: the messages, and what waits for those who asked by one.
+    pub desk: Desk<P>,
     answers: BTreeMap<u64, Answer<P>>,
+}
+
+impl<P: PublicKey> Drop for Mailbox<P> {
+    fn drop(self) {
+        let Mailbox {
+            desk: _desk,
+            answers: _answers,
+        } = self;
+    }
 }
 
 impl<P: PublicKey> Model for Mailbox<P> {
@@ -30,7 +36,7 @@ impl<P: PublicKey> Model for Mailbox<P> {
 
     ghost Value = { Way P };
 
-    ghost view = { λ m. record { messages = m.messages; answers = m.answers.entries } };
+    ghost view = { λ m. record { desk = m.desk; answers = m.answers.entries } };
 }
 
 impl<P: PublicKey> Mailbox<P> {
@@ -41,50 +47,36 @@ impl<P: PublicKey> Mailbox<P> {
         requires { 1 ≤ size }
         ensures { IfOk result (λ m. m ≡ new_way size) }
     {
-        let messages = p2p_base::Mailbox::new(alloc, size)?;
+        let desk = Desk::new(alloc, size)?;
         Ok(Mailbox {
-            messages,
+            desk,
             answers: BTreeMap::new(alloc),
         })
     }
 
-    /// Tells that the tracker has ended. The messages and the answers are dropped, each later message is told `Closed`, and who waits
-    /// for an answer is told that its peer may not connect.
+    /// Tells that the tracker has ended. The messages and the answers to connections are dropped, each later message is told `Closed`,
+    /// and a connection that waits for an answer is told that its peer may not connect. The answers, updates and sets that wait for
+    /// those who asked by an oracle stay.
     pub fn close(&mut self)
         ensures { self.new ≡ closed_way self.old }
     {
-        self.messages.close();
+        self.desk.close(&Access(()));
         self.answers.clear();
     }
 
     /// Whether the tracker has ended.
     pub fn is_closed(&self) -> bool
-        ensures { result ≡ self.now.messages.closed }
+        ensures { result ≡ self.now.desk.messages.closed }
     {
-        self.messages.is_closed()
+        self.desk.is_closed()
     }
 
     /// Removes the oldest message. `None` exactly where none waits.
     pub fn take(&mut self) -> Option<Message<P>>
-        ensures value { result ≡ oldest self.old.messages }
+        ensures value { result ≡ next_message self.old.desk }
         ensures after { self.new ≡ without_message self.old }
     {
-        self.messages.take()
-    }
-
-    // Puts a message last, and tells what became of it. A closed mailbox drops it.
-    fn put(&mut self, message: Message<P>) -> Result<Feedback, AllocError>
-        ensures told { IfOk result (λ f. Outcome f ≡ heard_of self.old message) }
-        ensures after { OnOk result (self.new ≡ with_message self.old message) }
-        ensures memory { OnErr result (self.new ≡ self.old) }
-    {
-        match self.messages.enqueue(message) {
-            Ok(Sent::Ok) => Ok(Feedback::Ok),
-            Ok(Sent::Backoff) => Ok(Feedback::Backoff),
-            Ok(Sent::Closed(_)) => Ok(Feedback::Closed),
-            Ok(Sent::Rejected(_)) => unreachable!(),
-            Err(NoRoom(_)) => Err(AllocError),
-        }
+        self.desk.take(&Access(()))
     }
 
     /// Tells the tracker that connection `conn` of a peer has begun, which waits for an answer; `dialer` tells whether this node
@@ -99,15 +91,18 @@ impl<P: PublicKey> Mailbox<P> {
         dialer: bool,
         conn: u64,
     ) -> Result<Feedback, AllocError>
-        ensures told { IfOk result (λ f. Outcome f ≡ heard_of self.old (message.Connect public_key dialer conn)) }
+        ensures told { IfOk result (λ f. f ≡ told_of self.old.desk) }
         ensures after { OnOk result (self.new ≡ with_message self.old (message.Connect public_key dialer conn)) }
         ensures memory { OnErr result (self.new ≡ self.old) }
     {
-        self.put(Message::Connect {
-            public_key,
-            dialer,
-            conn,
-        })
+        self.desk.put(
+            &Access(()),
+            Message::Connect {
+                public_key,
+                dialer,
+                conn,
+            },
+        )
     }
 
     /// Asks for a bit vector that the connection of a peer is to send. Tells what became of the message.
@@ -116,11 +111,12 @@ impl<P: PublicKey> Mailbox<P> {
     ///
     /// Ports `Mailbox::construct` of commonware-p2p.
     pub fn construct(&mut self, public_key: P) -> Result<Feedback, AllocError>
-        ensures told { IfOk result (λ f. Outcome f ≡ heard_of self.old (message.Construct public_key)) }
+        ensures told { IfOk result (λ f. f ≡ told_of self.old.desk) }
         ensures after { OnOk result (self.new ≡ with_message self.old (message.Construct public_key)) }
         ensures memory { OnErr result (self.new ≡ self.old) }
     {
-        self.put(Message::Construct { public_key })
+        self.desk
+            .put(&Access(()), Message::Construct { public_key })
     }
 
     /// Tells the tracker of a bit vector that a peer sent. Tells what became of the message.
@@ -129,14 +125,17 @@ impl<P: PublicKey> Mailbox<P> {
     ///
     /// Ports `Mailbox::bit_vec` of commonware-p2p.
     pub fn bit_vec(&mut self, public_key: P, bit_vec: BitVec) -> Result<Feedback, AllocError>
-        ensures told { IfOk result (λ f. Outcome f ≡ heard_of self.old (message.BitVec public_key bit_vec)) }
+        ensures told { IfOk result (λ f. f ≡ told_of self.old.desk) }
         ensures after { OnOk result (self.new ≡ with_message self.old (message.BitVec public_key bit_vec)) }
         ensures memory { OnErr result (self.new ≡ self.old) }
     {
-        self.put(Message::BitVec {
-            public_key,
-            bit_vec,
-        })
+        self.desk.put(
+            &Access(()),
+            Message::BitVec {
+                public_key,
+                bit_vec,
+            },
+        )
     }
 
     /// Tells the tracker of infos that came and are believed. Tells what became of the message.
@@ -145,66 +144,11 @@ impl<P: PublicKey> Mailbox<P> {
     ///
     /// Ports `Mailbox::peers` of commonware-p2p.
     pub fn peers(&mut self, peers: List<Info<P>>) -> Result<Feedback, AllocError>
-        ensures told { IfOk result (λ f. Outcome f ≡ heard_of self.old (message.Peers peers)) }
+        ensures told { IfOk result (λ f. f ≡ told_of self.old.desk) }
         ensures after { OnOk result (self.new ≡ with_message self.old (message.Peers peers)) }
         ensures memory { OnErr result (self.new ≡ self.old) }
     {
-        self.put(Message::Peers { peers })
-    }
-
-    /// Asks the tracker to track the peers of one more set. Tells what became of the message.
-    ///
-    /// `Err` only where memory runs out, and the mailbox stays as it was then.
-    pub fn register(&mut self, index: u64, peers: TrackedPeers<P>) -> Result<Feedback, AllocError>
-        ensures told { IfOk result (λ f. Outcome f ≡ heard_of self.old (message.Register index peers)) }
-        ensures after { OnOk result (self.new ≡ with_message self.old (message.Register index peers)) }
-        ensures memory { OnErr result (self.new ≡ self.old) }
-    {
-        self.put(Message::Register { index, peers })
-    }
-
-    /// Asks who is in the set of an index; `ticket` names the question. Tells what became of the message.
-    ///
-    /// `Err` only where memory runs out, and the mailbox stays as it was then.
-    pub fn peer_set(&mut self, index: u64, ticket: u64) -> Result<Feedback, AllocError>
-        ensures told { IfOk result (λ f. Outcome f ≡ heard_of self.old (message.PeerSet index ticket)) }
-        ensures after { OnOk result (self.new ≡ with_message self.old (message.PeerSet index ticket)) }
-        ensures memory { OnErr result (self.new ≡ self.old) }
-    {
-        self.put(Message::PeerSet { index, ticket })
-    }
-
-    /// Asks for the peer sets that are tracked from now on, and for the latest one; `ticket` names the subscription. Tells what became of the message.
-    ///
-    /// `Err` only where memory runs out, and the mailbox stays as it was then.
-    pub fn subscribe(&mut self, ticket: u64) -> Result<Feedback, AllocError>
-        ensures told { IfOk result (λ f. Outcome f ≡ heard_of self.old (message.Subscribe ticket)) }
-        ensures after { OnOk result (self.new ≡ with_message self.old (message.Subscribe ticket)) }
-        ensures memory { OnErr result (self.new ≡ self.old) }
-    {
-        self.put(Message::Subscribe { ticket })
-    }
-
-    /// Asks the tracker to disconnect a peer, and to keep it away. Tells what became of the message.
-    ///
-    /// `Err` only where memory runs out, and the mailbox stays as it was then.
-    pub fn block(&mut self, public_key: P) -> Result<Feedback, AllocError>
-        ensures told { IfOk result (λ f. Outcome f ≡ heard_of self.old (message.Block public_key)) }
-        ensures after { OnOk result (self.new ≡ with_message self.old (message.Block public_key)) }
-        ensures memory { OnErr result (self.new ≡ self.old) }
-    {
-        self.put(Message::Block { public_key })
-    }
-
-    /// Asks for the set of blocked keys, now and whenever it changes; `ticket` names the subscription. Tells what became of the message.
-    ///
-    /// `Err` only where memory runs out, and the mailbox stays as it was then.
-    pub fn subscribe_blocked(&mut self, ticket: u64) -> Result<Feedback, AllocError>
-        ensures told { IfOk result (λ f. Outcome f ≡ heard_of self.old (message.SubscribeBlocked ticket)) }
-        ensures after { OnOk result (self.new ≡ with_message self.old (message.SubscribeBlocked ticket)) }
-        ensures memory { OnErr result (self.new ≡ self.old) }
-    {
-        self.put(Message::SubscribeBlocked { ticket })
+        self.desk.put(&Access(()), Message::Peers { peers })
     }
 
     /// Asks which peers may be dialed. Tells what became of the message.
@@ -213,11 +157,11 @@ impl<P: PublicKey> Mailbox<P> {
     ///
     /// Ports `Mailbox::dialable` of commonware-p2p, which also waits for the answer.
     pub fn dialable(&mut self) -> Result<Feedback, AllocError>
-        ensures told { IfOk result (λ f. Outcome f ≡ heard_of self.old (message.Dialable)) }
+        ensures told { IfOk result (λ f. f ≡ told_of self.old.desk) }
         ensures after { OnOk result (self.new ≡ with_message self.old (message.Dialable)) }
         ensures memory { OnErr result (self.new ≡ self.old) }
     {
-        self.put(Message::Dialable)
+        self.desk.put(&Access(()), Message::Dialable)
     }
 
     /// Asks the tracker to reserve a peer that is to be dialed. Tells what became of the message.
@@ -226,11 +170,11 @@ impl<P: PublicKey> Mailbox<P> {
     ///
     /// Ports `Mailbox::dial` of commonware-p2p, which also waits for the answer.
     pub fn dial(&mut self, public_key: P) -> Result<Feedback, AllocError>
-        ensures told { IfOk result (λ f. Outcome f ≡ heard_of self.old (message.Dial public_key)) }
+        ensures told { IfOk result (λ f. f ≡ told_of self.old.desk) }
         ensures after { OnOk result (self.new ≡ with_message self.old (message.Dial public_key)) }
         ensures memory { OnErr result (self.new ≡ self.old) }
     {
-        self.put(Message::Dial { public_key })
+        self.desk.put(&Access(()), Message::Dial { public_key })
     }
 
     /// Asks whether a peer may connect, for a handshake. Tells what became of the message.
@@ -239,14 +183,17 @@ impl<P: PublicKey> Mailbox<P> {
     ///
     /// Ports `Mailbox::acceptable` of commonware-p2p, which also waits for the answer.
     pub fn acceptable(&mut self, public_key: P, handshake: u64) -> Result<Feedback, AllocError>
-        ensures told { IfOk result (λ f. Outcome f ≡ heard_of self.old (message.Acceptable public_key handshake)) }
+        ensures told { IfOk result (λ f. f ≡ told_of self.old.desk) }
         ensures after { OnOk result (self.new ≡ with_message self.old (message.Acceptable public_key handshake)) }
         ensures memory { OnErr result (self.new ≡ self.old) }
     {
-        self.put(Message::Acceptable {
-            public_key,
-            handshake,
-        })
+        self.desk.put(
+            &Access(()),
+            Message::Acceptable {
+                public_key,
+                handshake,
+            },
+        )
     }
 
     /// Asks the tracker to reserve a peer that has connected, for a handshake. Tells what became of the message.
@@ -255,14 +202,17 @@ impl<P: PublicKey> Mailbox<P> {
     ///
     /// Ports `Mailbox::listen` of commonware-p2p, which also waits for the answer.
     pub fn listen(&mut self, public_key: P, handshake: u64) -> Result<Feedback, AllocError>
-        ensures told { IfOk result (λ f. Outcome f ≡ heard_of self.old (message.Listen public_key handshake)) }
+        ensures told { IfOk result (λ f. f ≡ told_of self.old.desk) }
         ensures after { OnOk result (self.new ≡ with_message self.old (message.Listen public_key handshake)) }
         ensures memory { OnErr result (self.new ≡ self.old) }
     {
-        self.put(Message::Listen {
-            public_key,
-            handshake,
-        })
+        self.desk.put(
+            &Access(()),
+            Message::Listen {
+                public_key,
+                handshake,
+            },
+        )
     }
 
     /// Gives a reservation back to the tracker. Tells what became of the message.
@@ -271,12 +221,40 @@ impl<P: PublicKey> Mailbox<P> {
     ///
     /// Ports `Releaser::release` of commonware-p2p.
     pub fn release(&mut self, reservation: Reservation<P>) -> Result<Feedback, AllocError>
-        ensures told { IfOk result (λ f. Outcome f ≡ heard_of self.old (message.Release reservation)) }
+        ensures told { IfOk result (λ f. f ≡ told_of self.old.desk) }
         ensures after { OnOk result (self.new ≡ with_message self.old (message.Release reservation)) }
         ensures memory { OnErr result (self.new ≡ self.old) }
     {
         let metadata = reservation.into_metadata();
-        self.put(Message::Release { metadata })
+        self.desk.put(&Access(()), Message::Release { metadata })
+    }
+
+    /// Answers a question for a peer set: by the peers of the set, or by `None` where no set has the index that was asked for.
+    ///
+    /// A question has one answer: where it was answered or given up before, or was never asked, this answer is dropped.
+    pub fn answer_peer_set(&mut self, ticket: u64, peers: Option<TrackedPeers<P>>)
+        ensures { self.new ≡ with_desk self.old (answered_at self.old.desk ticket peers) }
+    {
+        self.desk.answer_peer_set(&Access(()), ticket, peers);
+    }
+
+    /// Puts an update for a subscription, behind those that wait for it. Where there is no such subscription it is dropped.
+    ///
+    /// `Err` only where memory runs out. The update is dropped then, and the mailbox stays as it was.
+    pub fn put_update(&mut self, ticket: u64, update: PeerSetUpdate<P>) -> Result<(), AllocError>
+        ensures after { OnOk result (self.new ≡ with_desk self.old (with_update self.old.desk ticket update)) }
+        ensures memory { OnErr result (self.new ≡ self.old) }
+    {
+        self.desk.put_update(&Access(()), ticket, update)
+    }
+
+    /// Puts a set of blocked keys for a subscription, and hands out the one that makes way for it. Where there is no such
+    /// subscription the set is dropped. It takes no memory.
+    pub fn put_blocked(&mut self, ticket: u64, set: Set<P>) -> Option<Set<P>>
+        ensures value { result ≡ set_of self.old.desk ticket }
+        ensures after { self.new ≡ with_desk self.old (with_set self.old.desk ticket set) }
+    {
+        self.desk.put_blocked(&Access(()), ticket, set)
     }
 
     /// Answers a connection. An answer that it was given before and hasn't taken makes way.
@@ -297,7 +275,7 @@ impl<P: PublicKey> Mailbox<P> {
     {
         match self.answers.remove(&conn) {
             Some(answer) => Some(answer),
-            None if self.messages.is_closed() => Some(Answer::NotEligible),
+            None if self.desk.is_closed() => Some(Answer::NotEligible),
             None => None,
         }
     }

@@ -1,8 +1,10 @@
 //! `Message`, what the tracker is told and asked.
+use super::Access;
 use crate::Metadata;
 use p2p_base::{Keep, List, Policy, PublicKey, UnreliablePolicy};
 use p2p_discovery::{BitVec, Info};
 use p2p_flow::TrackedPeers;
+use p2p_tracker_mailbox::{OracleMessage, RegisterMessage};
 
 /// What the tracker is told and asked. A full mailbox keeps it in its overflow.
 ///
@@ -109,4 +111,52 @@ impl<P: PublicKey> Policy for Message<P> {
     ghost use Rattle.p2p_base.specs.declared.policy.Keep.TheVariants as keep;
 
     ghost never_refuses = { λ _. not_refused keep.Append refl };
+}
+
+impl<P: PublicKey> OracleMessage for Message<P> {
+    ghost use Rattle.std.specs.Prelude.{refl};
+    ghost use Rattle.p2p_discovery_directory.specs.declared.tracker.message.Message.TheVariants as message;
+
+    type PublicKey = P;
+
+    type Access = Access;
+
+    ghost asks = { λ index ticket. message.PeerSet index ticket };
+
+    ghost subscribes = { λ ticket. message.Subscribe ticket };
+
+    ghost blocks = { λ peer. message.Block peer };
+
+    ghost subscribes_blocked = { λ ticket. message.SubscribeBlocked ticket };
+
+    fn peer_set(index: u64, ticket: u64) -> Message<P> {
+        Message::PeerSet { index, ticket }
+    }
+
+    fn subscribe(ticket: u64) -> Message<P> {
+        Message::Subscribe { ticket }
+    }
+
+    fn block(peer: P) -> Message<P> {
+        Message::Block { public_key: peer }
+    }
+
+    fn subscribe_blocked(ticket: u64) -> Message<P> {
+        Message::SubscribeBlocked { ticket }
+    }
+
+    ghost appends = { λ _. refl };
+}
+
+impl<P: PublicKey> RegisterMessage for Message<P> {
+    ghost use Rattle.p2p_discovery_directory.specs.declared.tracker.message.Message.TheVariants as message;
+
+    ghost registers = { λ index peers. message.Register index peers };
+
+    fn register_given(index: u64, given: &mut Option<TrackedPeers<P>>) -> Message<P> {
+        let Some(peers) = given.take() else {
+            unreachable!()
+        };
+        Message::Register { index, peers }
+    }
 }

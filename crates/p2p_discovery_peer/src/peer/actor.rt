@@ -35,13 +35,24 @@ use std::marker::Model;
 /// One connection: what it is told, what it holds, and how far it is.
 ///
 /// Ports `Actor` of commonware-p2p's discovery peer. Its two tasks are two steps of one value, and what they use is lent to each step.
-#[derive(Drop)]
 pub struct Actor<P> {
     conn: u64,
     limits: Limits,
     control: Mailbox<P>,
     live: Option<Live<P>>,
     failed: bool,
+}
+
+impl<P: Drop> Drop for Actor<P> {
+    fn drop(self) {
+        let Actor {
+            conn: _conn,
+            limits: _limits,
+            control: _control,
+            live: _live,
+            failed: _failed,
+        } = self;
+    }
 }
 
 impl<P> Model for Actor<P> {

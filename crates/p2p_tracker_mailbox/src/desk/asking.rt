@@ -1,28 +1,28 @@
 //! What the oracle calls: questions and subscriptions, and the answers to them.
 ghost use Rattle.std.specs.Prelude.{◌≡◌, ◌<◌, length, slice_get, IfOk, OnOk, OnErr};
 ghost use Rattle.p2p_flow.specs.Provided.{answer_of};
-ghost use Rattle.p2p_tracker_mailbox.specs.Desk.{told_of, asked, question_at, answer_taken, subscribed, updates_at, update_taken, blocked_subscribed, set_of, set_taken};
+ghost use Rattle.p2p_tracker_mailbox.specs.Desk.{told_of, asked_by, question_at, answer_taken, subscribed_by, updates_at, update_taken, blocked_subscribed_by, set_of, set_taken};
 
-use super::Desk;
+use super::DeskOf;
 use super::putting::put_last;
-use crate::Message;
+use crate::OracleMessage;
 use crate::question::Question;
 use crate::waiting::Waiting;
 use p2p_base::{Feedback, PublicKey, Set};
 use p2p_flow::{PeerSetUpdate, Polled, TrackedPeers};
 use std::alloc::AllocError;
 
-impl<P: PublicKey> Desk<P> {
+impl<P: PublicKey, M: OracleMessage<PublicKey = P>> DeskOf<P, M> {
     // Asks for the peers of the set with this index. Gives the number of the question.
     pub(crate) fn ask(&mut self, index: u64) -> Result<(u64, Feedback), AllocError>
         ensures number { IfOk result (λ r. r.0 ≡ length self.old.questions) }
         ensures told { IfOk result (λ r. r.1 ≡ told_of self.old) }
-        ensures after { OnOk result (self.new ≡ asked self.old index) }
+        ensures after { OnOk result (self.new ≡ asked_by M.asks self.old index) }
         ensures memory { OnErr result (self.new ≡ self.old) }
     {
         let ticket = self.questions.len() as u64;
         self.questions.reserve(1)?;
-        let told = put_last(&mut self.messages, Message::PeerSet { index, ticket })?;
+        let told = put_last(&mut self.messages, M::peer_set(index, ticket))?;
         self.questions.push_reserved(Question::new());
         Ok((ticket, told))
     }
@@ -45,13 +45,13 @@ impl<P: PublicKey> Desk<P> {
     pub(crate) fn subscribe(&mut self) -> Result<(u64, Feedback), AllocError>
         ensures number { IfOk result (λ r. r.0 ≡ length self.old.updates) }
         ensures told { IfOk result (λ r. r.1 ≡ told_of self.old) }
-        ensures after { OnOk result (self.new ≡ subscribed self.old) }
+        ensures after { OnOk result (self.new ≡ subscribed_by M.subscribes self.old) }
         ensures memory { OnErr result (self.new ≡ self.old) }
     {
         let ticket = self.updates.len() as u64;
         let alloc = *self.updates.allocator();
         self.updates.reserve(1)?;
-        let told = put_last(&mut self.messages, Message::Subscribe { ticket })?;
+        let told = put_last(&mut self.messages, M::subscribe(ticket))?;
         self.updates.push_reserved(Waiting::none(alloc));
         Ok((ticket, told))
     }
@@ -69,12 +69,12 @@ impl<P: PublicKey> Desk<P> {
     pub(crate) fn subscribe_blocked(&mut self) -> Result<(u64, Feedback), AllocError>
         ensures number { IfOk result (λ r. r.0 ≡ length self.old.sets) }
         ensures told { IfOk result (λ r. r.1 ≡ told_of self.old) }
-        ensures after { OnOk result (self.new ≡ blocked_subscribed self.old) }
+        ensures after { OnOk result (self.new ≡ blocked_subscribed_by M.subscribes_blocked self.old) }
         ensures memory { OnErr result (self.new ≡ self.old) }
     {
         let ticket = self.sets.len() as u64;
         self.sets.reserve(1)?;
-        let told = put_last(&mut self.messages, Message::SubscribeBlocked { ticket })?;
+        let told = put_last(&mut self.messages, M::subscribe_blocked(ticket))?;
         self.sets.push_reserved(None);
         Ok((ticket, told))
     }

@@ -4,12 +4,12 @@ ghost use Rattle.p2p_base.specs.Queue.{enqueued};
 ghost use Rattle.p2p_base.specs.declared.policy.Keep.TheVariants.{Append};
 ghost use Rattle.p2p_tracker_mailbox.specs.Desk.{told_by};
 
-use crate::Message;
-use p2p_base::{Feedback, Mailbox as Queue, PublicKey, UnreliablePolicy};
+use crate::OracleMessage;
+use p2p_base::{Feedback, Mailbox as Queue, UnreliablePolicy};
 use std::alloc::AllocError;
 
 // What one more message is told.
-fn told<P: PublicKey>(messages: &Queue<Message<P>>) -> Feedback
+fn told<M>(messages: &Queue<M>) -> Feedback
     ensures { result ≡ told_by messages.now }
 {
     if messages.is_closed() {
@@ -33,9 +33,9 @@ fn enqueue<T: UnreliablePolicy + Drop>(queue: &mut Queue<T>, item: T) -> Result<
 }
 
 // Puts a message last, and tells what became of it. A closed queue drops it.
-pub(super) fn put_last<P: PublicKey>(
-    messages: &mut Queue<Message<P>>,
-    message: Message<P>,
+pub(super) fn put_last<M: OracleMessage>(
+    messages: &mut Queue<M>,
+    message: M,
 ) -> Result<Feedback, AllocError>
     ensures told { IfOk result (λ f. f ≡ told_by messages.old) }
     ensures after { OnOk result (messages.new ≡ enqueued Append messages.old message) }

@@ -1,6 +1,6 @@
 //! `Actor`, the tracker itself: the blocks that have ended, or one message, a step.
 ghost use Rattle.std.specs.Prelude.{◌≡◌, ◌≤◌, false, true, IfOk, OnErr, IsErr, IfSome};
-ghost use Rattle.p2p_base.specs.Queue.{oldest};
+ghost use Rattle.p2p_tracker_mailbox.specs.Desk.{next_message};
 ghost use Rattle.p2p_discovery_directory.specs.Asking.{new_way};
 ghost use Rattle.p2p_discovery_directory.specs.Stepping.{IsQuiet, IsStep, MayTake};
 ghost use Rattle.p2p_discovery_directory.specs.Tracking.{new_tracking};
@@ -13,7 +13,7 @@ mod registering;
 mod telling;
 mod tracking;
 
-use super::{Config, Mailbox, Message, Put, Stepped};
+use super::{Config, Mailbox, Message, Oracle, Put, Stepped};
 use crate::DirectoryOf;
 use p2p_base::PublicKey;
 use p2p_discovery::Info;
@@ -47,8 +47,8 @@ impl<P: PublicKey, D> Model for Actor<P, D> {
 }
 
 impl<P: PublicKey, D: DirectoryOf<P> + Drop> Actor<P, D> {
-    /// A tracker over this directory, which tells nobody and keeps no connection, and the mailbox for its messages. `own` is the own info,
-    /// with which connections that begin are answered; of `cfg` the sizes and the cooldown are read.
+    /// A tracker over this directory, which tells nobody and keeps no connection, the mailbox for its messages, and the oracle that asks
+    /// it. `own` is the own info, with which connections that begin are answered; of `cfg` the key, the sizes and the cooldown are read.
     ///
     /// `Err` only where memory runs out.
     ///
@@ -58,13 +58,15 @@ impl<P: PublicKey, D: DirectoryOf<P> + Drop> Actor<P, D> {
         cfg: Config<P>,
         own: Info<P>,
         directory: D,
-    ) -> Result<(Actor<P, D>, Mailbox<P>), AllocError>
+    ) -> Result<(Actor<P, D>, Mailbox<P>, Oracle<P>), AllocError>
         requires mailbox_size { 1 ≤ cfg.mailbox_size }
         requires own { own.public_key ≡ cfg.public_key }
         requires none_held { (q : P) → D.is_held directory q ≡ false }
         ensures tracking { IfOk result (λ r. r.0.tracking ≡ new_tracking directory own cfg.peer_connection_cooldown cfg.peer_gossip_max_count) }
         ensures works { IfOk result (λ r. r.0.has_failed ≡ false) }
         ensures mailbox { IfOk result (λ r. r.1 ≡ new_way cfg.mailbox_size) }
+        ensures oracle { IfOk result (λ r. r.2.local ≡ cfg.public_key) }
+        ensures most { IfOk result (λ r. r.2.max_peers_per_set ≡ cfg.max_peers_per_set) }
     {
         let mailbox = Mailbox::new(alloc, cfg.mailbox_size)?;
         let (cooldown, most) = (cfg.peer_connection_cooldown, cfg.peer_gossip_max_count);
@@ -72,7 +74,8 @@ impl<P: PublicKey, D: DirectoryOf<P> + Drop> Actor<P, D> {
             tracking: Tracking::new(alloc, directory, own, cooldown, most),
             has_failed: false,
         };
-        Ok((actor, mailbox))
+        let oracle = Oracle::new(cfg.public_key, cfg.max_peers_per_set);
+        Ok((actor, mailbox, oracle))
     }
 
     /// The directory, whose tests tell whether a step may take its message.
@@ -99,7 +102,7 @@ impl<P: PublicKey, D: DirectoryOf<P> + Drop> Actor<P, D> {
         seed: u64,
     ) -> Result<Stepped<P>, AllocError>
         requires may_take { self.old.has_failed ≡ false → IsQuiet D.has_due self.old.tracking.directory now
-            → IfSome (oldest way.old.messages) (λ m. MayTake D.is_eligible D.is_reserved D.is_held D.has_record self.old.tracking.directory now m) }
+            → IfSome (next_message way.old.desk) (λ m. MayTake D.is_eligible D.is_reserved D.is_held D.has_record self.old.tracking.directory now m) }
         ensures step { IfOk result (λ s. IsStep D.answering D.is_eligible D.has_due P.cmp self.old.tracking way.old now seed s self.new.tracking way.new) }
         ensures works { IfOk result (λ s. self.new.has_failed ≡ false) }
         ensures memory { OnErr result (self.new.has_failed ≡ true) }

@@ -1,6 +1,6 @@
 //! `Tracking`, what a tracker knows, and what it does in a step.
 ghost use Rattle.std.specs.Prelude.{◌≡◌, IfOk, IfSome};
-ghost use Rattle.p2p_base.specs.Queue.{oldest};
+ghost use Rattle.p2p_tracker_mailbox.specs.Desk.{next_message};
 ghost use Rattle.p2p_discovery_directory.specs.Served.{IsServed};
 ghost use Rattle.p2p_discovery_directory.specs.Stepping.{IsQuiet, IsStep, MayTake};
 ghost use Rattle.p2p_discovery_directory.specs.Tracking.{new_tracking};
@@ -94,7 +94,7 @@ impl<P: PublicKey, D: DirectoryOf<P> + Drop> Tracking<P, D> {
         seed: u64,
     ) -> Result<Stepped<P>, AllocError>
         requires { IsQuiet D.has_due self.old.directory now
-            → IfSome (oldest way.old.messages) (λ m. MayTake D.is_eligible D.is_reserved D.is_held D.has_record self.old.directory now m) }
+            → IfSome (next_message way.old.desk) (λ m. MayTake D.is_eligible D.is_reserved D.is_held D.has_record self.old.directory now m) }
         ensures { IfOk result (λ s. IsStep D.answering D.is_eligible D.has_due P.cmp self.old way.old now seed s self.new way.new) }
     {
         if self.directory.unblock_expired(now) {

@@ -27,7 +27,7 @@ pub returns-clause-stands : goal.returns-clause-stands
 returns-clause-stands g c = λ calls s.
     subst (λ p. Represents g.P.Ord.cmp (plain_of c.release.new.self c.self.inside.own c.forget_ended.new.places.entries) (call.Release p ∷ calls)) c.named-held.ensures
     (told-release g.met.P.Ord.total c.self.invariant c.release.ensures.rules (lookup_peer_of c.named-held.result) c.forget_ended.new.places.entries
-    (ended-of g.P.Ord.cmp c.release.new.self c.self.inside.places.entries c.forget_ended.new.places.entries c.public_key.result.now (lookup_peer_of c.named-held.result) (c.public_key.ensures ∙ sym c.named-held.ensures) c.forget_ended.ensures)
+    (ended-of g.P.Ord.cmp c.release.new.self c.self.inside.places.entries c.forget_ended.new.places.entries c.public_key-peer.result.now (lookup_peer_of c.named-held.result) (c.public_key-peer.ensures ∙ sym c.named-held.ensures) c.forget_ended.ensures)
     c.release.ensures.stands calls (subst (λ k. Represents g.P.Ord.cmp k calls) (sym c.self.view_is) s))
 
 pub returns-clause-held : goal.returns-clause-held
@@ -45,5 +45,5 @@ returns-clause-reserved g c = λ q.
 pub invariant_of-self : goal.invariant_of-self
 invariant_of-self g c =
     plain-release g.met.P.Ord.total c.self.invariant c.release.ensures.rules (lookup_peer_of c.named-held.result) c.forget_ended.new.places.entries
-    (ended-of g.P.Ord.cmp c.release.new.self c.self.inside.places.entries c.forget_ended.new.places.entries c.public_key.result.now (lookup_peer_of c.named-held.result) (c.public_key.ensures ∙ sym c.named-held.ensures) c.forget_ended.ensures)
+    (ended-of g.P.Ord.cmp c.release.new.self c.self.inside.places.entries c.forget_ended.new.places.entries c.public_key-peer.result.now (lookup_peer_of c.named-held.result) (c.public_key-peer.ensures ∙ sym c.named-held.ensures) c.forget_ended.ensures)
     c.release.ensures.stands

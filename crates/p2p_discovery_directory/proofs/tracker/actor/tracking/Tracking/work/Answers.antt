@@ -1,6 +1,6 @@
 use Rattle.std.proofs.Common.{◌≡◌, Option, Some, refl, sym, ap, ◌∙◌, subst}
 use Rattle.std.specs.Prelude.{IfSome}
-use Rattle.p2p_base.specs.Queue.{oldest}
+use Rattle.p2p_tracker_mailbox.specs.Desk.{next_message}
 use Rattle.p2p_discovery_directory.specs.Served.{IsServed}
 use Rattle.p2p_discovery_directory.specs.Stepping.{IsQuiet, IsStep, MayTake}
 use Rattle.p2p_discovery_directory.specs.Tracking.{Tracking}
@@ -58,6 +58,6 @@ serve-requires g c =
     let before = ap (λ (t : Tracking g.row.D.Denot g.row.P.Denot). t.directory) c.self.view_is in
     let quiet : IsQuiet g.D.DirectoryOf.has_due c.args.self.now.directory c.args.now =
     subst (λ d. IsQuiet g.D.DirectoryOf.has_due d c.args.now) before (c.unblock_expired.ensures.none_due c.if-unblock_expired.false) in
-    let waits : oldest c.args.way.now.messages ≡ Some c.in-Some.message = sym c.take.ensures.value ∙ c.in-Some.is in
+    let waits : next_message c.args.way.now.desk ≡ Some c.in-Some.message = sym c.take.ensures.value ∙ c.in-Some.is in
     let allowed = subst (λ (o : Option (Message g.row.P.Denot)). IfSome o (λ m. MayTake g.D.DirectoryOf.is_eligible g.D.DirectoryOf.is_reserved g.D.DirectoryOf.is_held g.D.DirectoryOf.has_record c.args.self.now.directory c.args.now m)) waits (c.requires quiet) in
     subst (λ d. MayTake g.D.DirectoryOf.is_eligible g.D.DirectoryOf.is_reserved g.D.DirectoryOf.is_held g.D.DirectoryOf.has_record d c.args.now c.in-Some.message) (sym (c.unblock_expired.ensures.kept c.if-unblock_expired.false ∙ before)) allowed
