@@ -1,0 +1,97 @@
+//! The presets of a configuration.
+ghost use Rattle.std.specs.Prelude.{◌≡◌, ◌<◌};
+ghost use Rattle.p2p_runtime.specs.QuotaLaw.{rate_of};
+ghost use Rattle.p2p_lookup.specs.Presets.{recommended, local};
+
+use crate::config::Config;
+use p2p_address::SocketAddr;
+use p2p_base::List;
+use p2p_runtime::Quota;
+
+// A quota of a preset.
+fn quota(burst: u32, period: u64) -> Quota
+    requires burst { 0 < burst }
+    requires period { 0 < period }
+    ensures { result ≡ rate_of burst period }
+{
+    let Some(quota) = Quota::new(burst, period) else {
+        unreachable!()
+    };
+    quota
+}
+
+impl<P> Config<P> {
+    /// What is recommended where peers are anywhere: addresses that are not global are refused, and much is waited for.
+    ///
+    /// Ports `Config::recommended` of commonware-p2p.
+    pub fn recommended(
+        public_key: P,
+        namespace: List<u8>,
+        listen: SocketAddr,
+        max_peers_per_set: usize,
+        max_message_size: u32,
+        mailbox_size: usize,
+    ) -> Config<P>
+        ensures { result ≡ recommended public_key namespace listen max_peers_per_set max_message_size mailbox_size }
+    {
+        Config {
+            public_key,
+            namespace,
+            listen,
+            allow_private_ips: false,
+            allow_dns: true,
+            bypass_ip_check: false,
+            max_message_size,
+            max_peers_per_set,
+            mailbox_size,
+            send_batch_size: 8,
+            handshake_timeout: 5_000_000_000,
+            dial_timeout: 15_000_000_000,
+            peer_connection_cooldown: 60_000_000_000,
+            max_concurrent_handshakes: 512,
+            allowed_handshake_rate_per_ip: quota(1, 5_000_000_000),
+            allowed_handshake_rate_per_subnet: quota(64, 15_625_000),
+            ping_frequency: 50_000_000_000,
+            dial_frequency: 1_000_000_000,
+            tracked_peer_sets: 4,
+            block_duration: 14_400_000_000_000,
+        }
+    }
+
+    /// What suits nodes that are near each other: addresses that are not global are allowed, and little is waited for.
+    ///
+    /// Ports `Config::local` of commonware-p2p.
+    pub fn local(
+        public_key: P,
+        namespace: List<u8>,
+        listen: SocketAddr,
+        max_peers_per_set: usize,
+        max_message_size: u32,
+        mailbox_size: usize,
+    ) -> Config<P>
+        ensures { result ≡ local public_key namespace listen max_peers_per_set max_message_size mailbox_size }
+    {
+        Config {
+            public_key,
+            namespace,
+            listen,
+            allow_private_ips: true,
+            allow_dns: true,
+            bypass_ip_check: false,
+            max_message_size,
+            max_peers_per_set,
+            mailbox_size,
+            send_batch_size: 8,
+            handshake_timeout: 5_000_000_000,
+            dial_timeout: 15_000_000_000,
+            peer_connection_cooldown: 1_000_000_000,
+            max_concurrent_handshakes: 1024,
+            allowed_handshake_rate_per_ip: quota(16, 62_500_000),
+            allowed_handshake_rate_per_subnet: quota(128, 7_812_500),
+            ping_frequency: 5_000_000_000,
+            dial_frequency: 500_000_000,
+            tracked_peer_sets: 4,
+            block_duration: 3_600_000_000_000,
+        }
+    }
+}
