@@ -18,7 +18,7 @@ use Rattle.p2p_log_rules.proofs.Left.{without as without_line, line_gone, line_k
 use Rattle.p2p_log_rules.proofs.Touches.{away}
 use Rattle.p2p_net_router.specs.Names.{Agrees, is_routers}
 
-line_same : (p q : Queue) (items : List Envelope) → same_queue p q ≡ true → filter (stands_in q) items ≡ filter (stands_in p) items
+pub line_same : (p q : Queue) (items : List Envelope) → same_queue p q ≡ true → filter (stands_in q) items ≡ filter (stands_in p) items
 line_same p q items k = filter-same (stands_in q) (stands_in p) (λ z. sym (same_queue-congr p q z.queue k)) items
 
 module _ {T : Type 0} where
@@ -114,8 +114,8 @@ module _ {T : Type 0} where
       ]) refl
 
 -- an answer to a connection stands in no queue of the router
-pub answer_away : (n m conn : ℕ) (q : Queue) → is_routers n q ≡ true → same_queue q (queue.Ready m conn) ≡ false
-answer_away n m conn q h = same_queue-sym q (queue.Ready m conn) ∙ away (is_routers n) (queue.Ready m conn) q refl h
+pub answer_away : (n m conn : ℕ) (q : Queue) → is_routers n q ≡ true → same_queue q (queue.RouterAnswer m conn) ≡ false
+answer_away n m conn q h = same_queue-sym q (queue.RouterAnswer m conn) ∙ away (is_routers n) (queue.RouterAnswer m conn) q refl h
 
 -- one more put, in its place
 pub placed-last :

@@ -101,11 +101,11 @@ line_is log q = refl
 pub stands_begun :
     (configs : List Config) (log : List Entry) (e : Entry) (r : Router) (conn m : ℕ)
     → StandsFor configs log r → IsBeside configs log e r.number
-    → e.takes ≡ (takes_oldest (line log (queue.Ready m conn))).takes → e.puts ≡ [] → e.ends ≡ []
+    → e.takes ≡ (takes_oldest (line log (queue.RouterAnswer m conn))).takes → e.puts ≡ [] → e.ends ≡ []
     → StandsFor configs (log ++ e ∷ []) r
 stands_begun configs log e r conn m s b takes puts ends =
-    let l = line log (queue.Ready m conn) in
+    let l = line log (queue.RouterAnswer m conn) in
     stands_beside configs log e r s b
     (lines_stay log e r.number (takes_oldest l).takes (takes_alone e (takes_oldest l).takes takes (ap (flat_map ended_item) ends))
-    (go_begun r.number (queue.Ready m conn) (live log) l refl (AreApart-live_from 0 log) (line_is log (queue.Ready m conn)))
+    (go_begun r.number (queue.RouterAnswer m conn) (live log) l refl (AreApart-live_from 0 log) (line_is log (queue.RouterAnswer m conn)))
     (puts_none r.number e.puts puts))

@@ -37,7 +37,7 @@ use Rattle.p2p_log.specs.Apart.{AreApart}
 use Rattle.p2p_log.proofs.Names.{AreApart-live_from, filter_stays-first}
 use Rattle.p2p_net_queues.specs.declared.board.Board.{Board}
 use Rattle.p2p_net_queues.specs.Board.{held}
-use Rattle.p2p_net_queues.specs.Rows.{taken_row}
+use Rattle.p2p_log_rules.specs.Rows.{taken_row}
 use Rattle.p2p_net_router.specs.Relays.{with_spread}
 use Rattle.p2p_net_router.specs.Names.{Agrees, is_routers, label, bare, bare_item, tag_of}
 use Rattle.p2p_net_router.specs.Items.{key_cmp, channel_of, named_keys, message_item, messages_in, lists_in, frame_item, frames_of, items_of}

@@ -19,10 +19,10 @@ use Rattle.p2p_net_router.proofs.Aside.{same_queue-other}
 use Rattle.p2p_net_router.proofs.Batches.{left, line_left, line_beside, batch_beside}
 
 -- without these, and then without those
-left_twice : (xs ys items : List Envelope) → left ys (left xs items) ≡ left (xs ++ ys) items
+pub left_twice : (xs ys items : List Envelope) → left ys (left xs items) ≡ left (xs ++ ys) items
 left_twice xs ys items = sym (filter_stays-append (map name_of xs) (map name_of ys) items) ∙ ap (λ g. filter (stays g) items) (sym (map-append name_of xs ys))
 
-whole : (xs : List Envelope) → take (length xs) xs ≡ xs
+pub whole : (xs : List Envelope) → take (length xs) xs ≡ xs
 whole xs = take_whole (length xs) xs (omega arith)
 
 -- a line of which all was taken

@@ -24,7 +24,9 @@ pub mod Numbers
 pub mod Others
 pub mod Over
 pub mod Overwritten
+pub mod Parted
 pub mod Peered
+pub mod Pointing
 pub mod Readying
 pub mod Released
 pub mod Releasing
@@ -43,3 +45,4 @@ pub mod Taking
 pub mod Told
 pub mod Turns
 pub mod Unrouted
+pub mod Written

@@ -21,7 +21,7 @@ use Rattle.p2p_net_queues.specs.declared.board.Board.{Board}
 use Rattle.p2p_net_queues.specs.Board.{held}
 use Rattle.p2p_router.specs.declared.stepped.Routed.{Routed}
 use Rattle.p2p_router.specs.declared.stepped.Routed.TheVariants as routed
-use Rattle.p2p_net_queues.specs.Rows.{taken_row}
+use Rattle.p2p_log_rules.specs.Rows.{taken_row}
 use Rattle.p2p_net_router.specs.Relays.{spread_of, with_spread}
 use Rattle.p2p_net_router.specs.Names.{Agrees, label, tag_of, takes_of}
 use Rattle.p2p_net_router.specs.Building.{NamesBuild}
@@ -77,10 +77,10 @@ NamesBuild-start n names items entry r e h =
 
 pub NamesBuild-answer :
     (n : ℕ) (names : Board Name) (items : List Envelope) (entry : ℕ) (r s : Row) (m conn : ℕ)
-    → s.puts ≡ r.puts ++ (queue.Ready m conn, item.Answer) ∷ [] → NamesBuild n names items entry r → NamesBuild n names items entry s
+    → s.puts ≡ r.puts ++ (queue.RouterAnswer m conn, item.RouterAnswer) ∷ [] → NamesBuild n names items entry r → NamesBuild n names items entry s
 NamesBuild-answer n names items entry r s m conn e h =
-    let x : Envelope = record { entry = entry; place = length r.puts; queue = queue.Ready m conn; item = item.Answer } in
-    subst (Agrees n label (held names)) (sym (ap (λ l. items ++ placed entry 0 l) e ∙ placed-last items entry r.puts (queue.Ready m conn, item.Answer)))
+    let x : Envelope = record { entry = entry; place = length r.puts; queue = queue.RouterAnswer m conn; item = item.RouterAnswer } in
+    subst (Agrees n label (held names)) (sym (ap (λ l. items ++ placed entry 0 l) e ∙ placed-last items entry r.puts (queue.RouterAnswer m conn, item.RouterAnswer)))
     (Agrees-other n label (held names) (items ++ placed entry 0 r.puts) x h (λ q own. answer_away n m conn q own))
 
 -- ---- lists

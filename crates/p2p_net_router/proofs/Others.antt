@@ -17,7 +17,7 @@ use Rattle.p2p_log.proofs.Lines.{filter_stays-nil}
 use Rattle.p2p_log.proofs.Queues.{same_queue-sym}
 use Rattle.p2p_log_rules.proofs.Touches.{away}
 use Rattle.p2p_log.specs.Apart.{AreApart}
-use Rattle.p2p_net_queues.specs.Rows.{taken_row}
+use Rattle.p2p_log_rules.specs.Rows.{taken_row}
 use Rattle.p2p_net_router.specs.Relays.{with_spread}
 use Rattle.p2p_net_router.specs.Names.{is_routers}
 use Rattle.p2p_net_router.specs.Sound.{AreDistinct}

@@ -48,14 +48,14 @@ placed_lists n entry p keys (c ∷ cs) q distinct =
 -- what is put before the lists: nothing, or the answer to a connection
 pub data IsPutBefore (n : ℕ) : List (Queue × Item) → Type 0 where
   nothing : IsPutBefore n []
-  answer : (conn : ℕ) → IsPutBefore n ((queue.Ready n conn, item.Answer) ∷ [])
+  answer : (conn : ℕ) → IsPutBefore n ((queue.RouterAnswer n conn, item.RouterAnswer) ∷ [])
 
 placed_told :
     (n entry : ℕ) (puts : List (Queue × Item)) (keys : List Key) (cs : List ℕ) (q : Queue) → is_routers n q ≡ true → IsPutBefore n puts → AreDistinct cs
     → map bare_item (filter (stands_in q) (placed entry 0 (puts ++ map (peers_put n keys) cs))) ≡ cond (is_told n cs q) (item.Peers keys ∷ []) []
 placed_told n entry puts keys cs q own nothing distinct = placed_lists n entry 0 keys cs q distinct
 placed_told n entry puts keys cs q own (answer conn) distinct =
-    let x : Envelope = record { entry = entry; place = 0; queue = queue.Ready n conn; item = item.Answer } in
+    let x : Envelope = record { entry = entry; place = 0; queue = queue.RouterAnswer n conn; item = item.RouterAnswer } in
     let later = filter (stands_in q) (placed entry 1 (map (peers_put n keys) cs)) in
     ap (λ b. map bare_item (cond b (x ∷ later) later)) (answer_away n n conn q own) ∙ placed_lists n entry 1 keys cs q distinct
 

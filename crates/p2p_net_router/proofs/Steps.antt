@@ -106,7 +106,7 @@ pub routed_ready :
     → actor ≡ routes_on key_cmp old.actor old.messenger (message_waiting old.messenger)
     → desk ≡ desk_on key_cmp old.actor old.messenger (message_waiting old.messenger)
     → ((items : List Envelope) (x : Envelope) (rest : List Envelope) → IsOldest old.number old.names items x rest
-    → row ≡ told_row old.number x items ((queue.Ready old.number conn, item.Answer) ∷ []) told.peers (map (channel_of old.channels.items) told.subscriptions))
+    → row ≡ told_row old.number x items ((queue.RouterAnswer old.number conn, item.RouterAnswer) ∷ []) told.peers (map (channel_of old.channels.items) told.subscriptions))
     → ((items : List Envelope) (x : Envelope) (rest : List Envelope) → IsOldest old.number old.names items x rest → Agrees old.number label (held names) (after entry row items))
     → IsRouted configs log entry old desk actor names row
 routed_ready configs log entry old desk actor names row peer conn replaced told s answered actor_is desk_is row_is names_are =
@@ -151,7 +151,7 @@ routed_ready configs log entry old desk actor names row peer conn replaced told 
     let t : IsTold channels taken desk (keys_of links) subs =
     subst (λ (d : Desk Key). IsTold channels taken d (keys_of links) subs) (sym desk_now) (told_all-told channels taken (keys_of links) subs within sound.rings sound.channels sound.distinct)
     in
-    let puts = (queue.Ready n conn, item.Answer) ∷ [] in
+    let puts = (queue.RouterAnswer n conn, item.RouterAnswer) ∷ [] in
     let row_now : row ≡ told_row n x (live log) puts (keys_of links) (map (channel_of channels) subs) =
     row_is (live log) x f.rest oldest ∙ ap (λ (o : Told Key). told_row n x (live log) puts o.peers (map (channel_of channels) o.subscriptions)) told_now
     in

@@ -48,12 +48,12 @@ abbrev popped : Link → Bool → Link
 popped l priority = relayed l priority (without_oldest (lane l.relay priority))
 
 -- where the frames of a connection are kept: its link is open
-record IsKept (size : ℕ) (r : Router) (conn : ℕ) (key : Key) (l : Link) : Type 0 where
-  link : link_of key_cmp r.actor.links key ≡ Some l
-  conn_is : l.conn ≡ conn
-  lanes : IsOpen size l.relay
-  known : get nat_cmp r.peers l.conn ≡ Some key
-  silent : said_of key (messages_in r.messenger.binding) ≡ []
+pub record IsKept (size : ℕ) (r : Router) (conn : ℕ) (key : Key) (l : Link) : Type 0 where
+  pub link : link_of key_cmp r.actor.links key ≡ Some l
+  pub conn_is : l.conn ≡ conn
+  pub lanes : IsOpen size l.relay
+  pub known : get nat_cmp r.peers l.conn ≡ Some key
+  pub silent : said_of key (messages_in r.messenger.binding) ≡ []
 
 kept_by :
     (size : ℕ) (r : Router) (conn : ℕ) (key : Key) (l : Link) (priority : Bool) (e : EncodedData) → IsSound size r → get nat_cmp r.peers conn ≡ Some key → link_of key_cmp r.actor.links key ≡ Some l
@@ -71,7 +71,7 @@ kept size r conn key l priority e s peer link first =
     (linked_as size r.peers key l (said_of key (messages_in r.messenger.binding))
     (subst (λ o. IsInTurn size r.peers key o (said_of key (messages_in r.messenger.binding))) link (s.turns key)))
 
-frames_kept : (size : ℕ) (r : Router) (conn : ℕ) (key : Key) (l : Link) (b : Bool) → IsKept size r conn key l → frames_of r.peers r.actor.links b conn ≡ (lane l.relay b).items
+pub frames_kept : (size : ℕ) (r : Router) (conn : ℕ) (key : Key) (l : Link) (b : Bool) → IsKept size r conn key l → frames_of r.peers r.actor.links b conn ≡ (lane l.relay b).items
 frames_kept size r conn key l b h =
     ap (frames_of r.peers r.actor.links b) (sym h.conn_is) ∙ frames_own r.peers r.actor.links key l b h.link h.known
 
@@ -91,17 +91,17 @@ sound_taken size r conn key l priority names s h = record {
   numbered = s.numbered;
 }
 
-same_turned : (a b : Bool) (n m c d : ℕ) → (n == m) ≡ true → ((c == d) && same_lane a b) ≡ same_queue (relay_queue a n c) (relay_queue b m d)
+pub same_turned : (a b : Bool) (n m c d : ℕ) → (n == m) ≡ true → ((c == d) && same_lane a b) ≡ same_queue (relay_queue a n c) (relay_queue b m d)
 same_turned true true n m c d h = grind (arith, nat_tests)
 same_turned true false n m c d h = grind (arith, nat_tests)
 same_turned false true n m c d h = grind (arith, nat_tests)
 same_turned false false n m c d h = grind (arith, nat_tests)
 
-lane_not_router : (b : Bool) (n conn m : ℕ) → same_queue (relay_queue b n conn) (queue.Router m) ≡ false
+pub lane_not_router : (b : Bool) (n conn m : ℕ) → same_queue (relay_queue b n conn) (queue.Router m) ≡ false
 lane_not_router true n conn m = refl
 lane_not_router false n conn m = refl
 
-lane_not_peers : (b : Bool) (n conn m c : ℕ) → same_queue (relay_queue b n conn) (queue.Peers m c) ≡ false
+pub lane_not_peers : (b : Bool) (n conn m c : ℕ) → same_queue (relay_queue b n conn) (queue.Peers m c) ≡ false
 lane_not_peers true n conn m c = refl
 lane_not_peers false n conn m c = refl
 

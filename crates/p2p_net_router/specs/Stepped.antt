@@ -13,7 +13,7 @@ use Rattle.p2p_log.specs.Lines.{name_of, stays, ended_item}
 use Rattle.p2p_log_rules.specs.Effect.{only, peers_put, peers_ends}
 use Rattle.p2p_net_queues.specs.declared.board.Board.{Board}
 use Rattle.p2p_net_queues.specs.Board.{held}
-use Rattle.p2p_net_queues.specs.Rows.{taken_row}
+use Rattle.p2p_log_rules.specs.Rows.{taken_row}
 use Rattle.p2p_router.specs.declared.stepped.Stepped.{Stepped}
 use Rattle.p2p_router.specs.declared.stepped.Stepped.TheVariants as stepped
 use Rattle.p2p_net_router.specs.Copies.{copies_spread}
@@ -27,7 +27,7 @@ use Rattle.p2p_net_router.specs.declared.name.Name.{Name}
 -- the answer of a connection, where one was answered
 abbrev pub answers_put : ℕ → Option ℕ → List (Queue × Item)
 answers_put n None = []
-answers_put n (Some conn) = (queue.Ready n conn, item.Answer) ∷ []
+answers_put n (Some conn) = (queue.RouterAnswer n conn, item.RouterAnswer) ∷ []
 
 -- the items without the lists of these channels
 abbrev pub listless : ℕ → List ℕ → List Envelope → List Envelope

@@ -4,7 +4,7 @@ ghost use Rattle.p2p_log.specs.Lines.{name_of};
 ghost use Rattle.p2p_log.specs.Apart.{AreApart};
 ghost use Rattle.p2p_log_rules.specs.Effect.{only as only_reply};
 ghost use Rattle.p2p_net_queues.specs.Board.{held};
-ghost use Rattle.p2p_net_queues.specs.Rows.{taken_row};
+ghost use Rattle.p2p_log_rules.specs.Rows.{taken_row};
 ghost use Rattle.p2p_net_router.specs.Relays.{spread_of, with_spread};
 ghost use Rattle.p2p_net_router.specs.Names.{Agrees, label, tag_of};
 ghost use Rattle.p2p_net_router.specs.Items.{channel_of};
@@ -53,11 +53,11 @@ fn put_answer(turn: Turn, row: &mut Row, answered: Option<u64>) -> Result<(), Al
     match answered {
         None => Ok(()),
         Some(conn) => {
-            let queue = Queue::Ready {
+            let queue = Queue::RouterAnswer {
                 node: turn.node,
                 conn,
             };
-            row.puts.push((queue, Item::Answer))?;
+            row.puts.push((queue, Item::RouterAnswer))?;
             Ok(())
         }
     }

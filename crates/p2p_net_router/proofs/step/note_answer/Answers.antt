@@ -7,7 +7,7 @@ use Rattle.p2p_log.specs.Lines.{name_of, stays}
 use Rattle.p2p_log_rules.specs.Effect.{only}
 use Rattle.p2p_log.proofs.Lines.{filter_stays-nil}
 use Rattle.p2p_net_queues.specs.Board.{held}
-use Rattle.p2p_net_queues.specs.Rows.{taken_row}
+use Rattle.p2p_log_rules.specs.Rows.{taken_row}
 use Rattle.p2p_router.specs.declared.stepped.Stepped.{Stepped}
 use Rattle.p2p_net_router.specs.Copies.{copies_spread}
 use Rattle.p2p_net_router.specs.Holds.{after}
