@@ -15,18 +15,18 @@ use Rattle.p2p_log.proofs.Each.{Each-passing}
 queue_of : ℕ → ℕ → ℕ → Queue
 queue_of zero n d = queue.Router n
 queue_of (suc zero) n d = queue.Peers n d
-queue_of (suc (suc zero)) n d = queue.Ready n d
+queue_of (suc (suc zero)) n d = queue.RouterAnswer n d
 queue_of (suc (suc (suc zero))) n d = queue.High n d
 queue_of (suc (suc (suc (suc zero)))) n d = queue.Low n d
 queue_of (suc (suc (suc (suc (suc zero))))) n d = queue.Link n side.Out
 queue_of (suc (suc (suc (suc (suc (suc zero)))))) n d = queue.Link n side.In
 queue_of (suc (suc (suc (suc (suc (suc (suc zero))))))) n d = queue.Channel n d
 queue_of (suc (suc (suc (suc (suc (suc (suc (suc zero)))))))) n d = queue.Tracker n
-queue_of (suc (suc (suc (suc (suc (suc (suc (suc (suc zero))))))))) n d = queue.Update n
+queue_of (suc (suc (suc (suc (suc (suc (suc (suc (suc zero))))))))) n d = queue.Addresses n
 queue_of (suc (suc (suc (suc (suc (suc (suc (suc (suc (suc zero)))))))))) n d = queue.Dialer n
 queue_of (suc (suc (suc (suc (suc (suc (suc (suc (suc (suc (suc zero))))))))))) n d = queue.Control n d
-queue_of (suc (suc (suc (suc (suc (suc (suc (suc (suc (suc (suc (suc zero)))))))))))) n d = queue.Answer n d
-queue_of (suc (suc (suc (suc (suc (suc (suc (suc (suc (suc (suc (suc (suc zero))))))))))))) n d = queue.Updates n d
+queue_of (suc (suc (suc (suc (suc (suc (suc (suc (suc (suc (suc (suc zero)))))))))))) n d = queue.PeerSet n d
+queue_of (suc (suc (suc (suc (suc (suc (suc (suc (suc (suc (suc (suc (suc zero))))))))))))) n d = queue.PeerSetUpdates n d
 queue_of (suc (suc (suc (suc (suc (suc (suc (suc (suc (suc (suc (suc (suc (suc zero)))))))))))))) n d = queue.Blocked n d
 queue_of (suc (suc (suc (suc (suc (suc (suc (suc (suc (suc (suc (suc (suc (suc (suc zero))))))))))))))) n d = queue.Attempt n d
 queue_of (suc (suc (suc (suc (suc (suc (suc (suc (suc (suc (suc (suc (suc (suc (suc (suc zero)))))))))))))))) n d = queue.Arrivals n
@@ -38,18 +38,18 @@ queue_of-code : (q : Queue) → queue_of (kind_of q) (owner_of q) (detail_of q) 
 unfolding queue_of
 queue_of-code (queue.Router n) = refl
 queue_of-code (queue.Peers n c) = refl
-queue_of-code (queue.Ready n e) = refl
+queue_of-code (queue.RouterAnswer n e) = refl
 queue_of-code (queue.High n e) = refl
 queue_of-code (queue.Low n e) = refl
 queue_of-code (queue.Link e side.Out) = refl
 queue_of-code (queue.Link e side.In) = refl
 queue_of-code (queue.Channel n c) = refl
 queue_of-code (queue.Tracker n) = refl
-queue_of-code (queue.Update n) = refl
+queue_of-code (queue.Addresses n) = refl
 queue_of-code (queue.Dialer n) = refl
 queue_of-code (queue.Control n e) = refl
-queue_of-code (queue.Answer n e) = refl
-queue_of-code (queue.Updates n e) = refl
+queue_of-code (queue.PeerSet n e) = refl
+queue_of-code (queue.PeerSetUpdates n e) = refl
 queue_of-code (queue.Blocked n e) = refl
 queue_of-code (queue.Attempt n e) = refl
 queue_of-code (queue.Arrivals n) = refl

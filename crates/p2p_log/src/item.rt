@@ -29,7 +29,7 @@ pub enum Item {
     /// The connected peers, in order.
     Peers(List<Key>),
     /// The router's answer to a connection: it may run.
-    Answer,
+    RouterAnswer,
     /// A frame on its way to a peer.
     Frame {
         copy: Option<(u64, u64)>,
@@ -109,7 +109,7 @@ pub enum Item {
     /// The peers of the set that was asked for, or none where no set of that index is kept.
     PeerSet(Option<TrackedPeers<Key>>),
     /// What a subscription to peer sets is told.
-    Update(PeerSetUpdate<Key>),
+    PeerSetUpdate(PeerSetUpdate<Key>),
     /// The keys that are blocked.
     Blocked(Set<Key>),
 }
@@ -148,7 +148,7 @@ impl Item {
                 to: to.try_clone(alloc)?,
             }),
             Item::Peers(keys) => Ok(Item::Peers(keys.try_clone(alloc)?)),
-            Item::Answer => Ok(Item::Answer),
+            Item::RouterAnswer => Ok(Item::RouterAnswer),
             Item::Frame { copy, frame } => Ok(Item::Frame {
                 copy: *copy,
                 frame: frame.clone()?,
@@ -207,7 +207,7 @@ impl Item {
             }),
             Item::Kill => Ok(Item::Kill),
             Item::PeerSet(peers) => Ok(Item::PeerSet(clone_peers(peers)?)),
-            Item::Update(update) => Ok(Item::Update(update.try_clone()?)),
+            Item::PeerSetUpdate(update) => Ok(Item::PeerSetUpdate(update.try_clone()?)),
             Item::Blocked(keys) => Ok(Item::Blocked(keys.try_clone()?)),
         }
     }

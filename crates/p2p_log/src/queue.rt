@@ -21,7 +21,7 @@ pub enum Queue {
     /// The newest list of peers of a channel.
     Peers { node: u64, channel: u64 },
     /// The router's answer to a connection.
-    Ready { node: u64, conn: u64 },
+    RouterAnswer { node: u64, conn: u64 },
     /// The messages with priority that a connection has yet to write.
     High { node: u64, conn: u64 },
     /// The messages without priority that a connection has yet to write.
@@ -35,7 +35,7 @@ pub enum Queue {
     /// The mailbox of a node's tracker.
     Tracker(u64),
     /// The newest addresses from which peers may come, for a node's listener.
-    Update(u64),
+    Addresses(u64),
     /// What the tracker answered to a node's dialer.
     Dialer(u64),
     /// What an attempt of a node's dialer is told.
@@ -49,9 +49,9 @@ pub enum Queue {
     /// What a connection of a node is told to do.
     Control { node: u64, conn: u64 },
     /// The answer to the question for a peer set that an event asked of a node.
-    Answer { node: u64, question: u64 },
+    PeerSet { node: u64, question: u64 },
     /// What waits for the subscription to peer sets that an event made at a node.
-    Updates { node: u64, question: u64 },
+    PeerSetUpdates { node: u64, question: u64 },
     /// The newest blocked keys for the subscription to them that an event made at a node.
     Blocked { node: u64, question: u64 },
 }
@@ -64,7 +64,7 @@ impl Queue {
         match self {
             Queue::Router(_) => 0,
             Queue::Peers { .. } => 1,
-            Queue::Ready { .. } => 2,
+            Queue::RouterAnswer { .. } => 2,
             Queue::High { .. } => 3,
             Queue::Low { .. } => 4,
             Queue::Link {
@@ -74,11 +74,11 @@ impl Queue {
             Queue::Link { side: Side::In, .. } => 6,
             Queue::Channel { .. } => 7,
             Queue::Tracker(_) => 8,
-            Queue::Update(_) => 9,
+            Queue::Addresses(_) => 9,
             Queue::Dialer(_) => 10,
             Queue::Control { .. } => 11,
-            Queue::Answer { .. } => 12,
-            Queue::Updates { .. } => 13,
+            Queue::PeerSet { .. } => 12,
+            Queue::PeerSetUpdates { .. } => 13,
             Queue::Blocked { .. } => 14,
             Queue::Attempt { .. } => 15,
             Queue::Arrivals(_) => 16,
@@ -95,17 +95,17 @@ impl Queue {
         match *self {
             Queue::Router(node) => node,
             Queue::Peers { node, .. } => node,
-            Queue::Ready { node, .. } => node,
+            Queue::RouterAnswer { node, .. } => node,
             Queue::High { node, .. } => node,
             Queue::Low { node, .. } => node,
             Queue::Link { link, .. } => link,
             Queue::Channel { node, .. } => node,
             Queue::Tracker(node) => node,
-            Queue::Update(node) => node,
+            Queue::Addresses(node) => node,
             Queue::Dialer(node) => node,
             Queue::Control { node, .. } => node,
-            Queue::Answer { node, .. } => node,
-            Queue::Updates { node, .. } => node,
+            Queue::PeerSet { node, .. } => node,
+            Queue::PeerSetUpdates { node, .. } => node,
             Queue::Blocked { node, .. } => node,
             Queue::Attempt { node, .. } => node,
             Queue::Arrivals(node) => node,
@@ -122,17 +122,17 @@ impl Queue {
         match *self {
             Queue::Router(_) => 0,
             Queue::Peers { channel, .. } => channel,
-            Queue::Ready { conn, .. } => conn,
+            Queue::RouterAnswer { conn, .. } => conn,
             Queue::High { conn, .. } => conn,
             Queue::Low { conn, .. } => conn,
             Queue::Link { .. } => 0,
             Queue::Channel { channel, .. } => channel,
             Queue::Tracker(_) => 0,
-            Queue::Update(_) => 0,
+            Queue::Addresses(_) => 0,
             Queue::Dialer(_) => 0,
             Queue::Control { conn, .. } => conn,
-            Queue::Answer { question, .. } => question,
-            Queue::Updates { question, .. } => question,
+            Queue::PeerSet { question, .. } => question,
+            Queue::PeerSetUpdates { question, .. } => question,
             Queue::Blocked { question, .. } => question,
             Queue::Attempt { attempt, .. } => attempt,
             Queue::Arrivals(_) => 0,

@@ -68,8 +68,8 @@ module _ (configs : List Config) (log : List Entry) (n : ℕ) where
   row_admits at = by (is_up log n)
     where
       by : (b : Bool) → Admits
-          (cond b (listener_turn (gate_rules_at configs n) (known_of configs log n) (has_place configs log n) n (length log) at (line log (queue.Update n)) (line log (queue.Arrivals n))) (only reply.Gone))
-      by true so = turn_admits at (known_of configs log n) (has_place configs log n) (line log (queue.Update n)) so
+          (cond b (listener_turn (gate_rules_at configs n) (known_of configs log n) (has_place configs log n) n (length log) at (line log (queue.Addresses n)) (line log (queue.Arrivals n))) (only reply.Gone))
+      by true so = turn_admits at (known_of configs log n) (has_place configs log n) (line log (queue.Addresses n)) so
       by false so = absurd (cc)
 
   -- nobody who is admitted is turned away

@@ -26,7 +26,7 @@ use Rattle.p2p_log_laws.proofs.NodeGrants.{each_node_turn}
 use Rattle.p2p_log_laws.proofs.OneConnection.{connections_are_one, ends_meet}
 use Rattle.p2p_log_laws.proofs.Ordering.{delivered_over_one, each_went_over}
 use Rattle.p2p_log_laws.proofs.OverLinks.{delivered_by_older}
-use Rattle.p2p_log_laws.proofs.RegisteredOnce.{each_registers_once}
+use Rattle.p2p_log_laws.proofs.RegisteredOnce.{each_registers_once, each_start_settles}
 use Rattle.p2p_log_laws.proofs.Releasing.{each_is_released_as_it_ends}
 use Rattle.p2p_log_laws.proofs.Subscribing.{each_start_subscribes}
 use Rattle.p2p_log_laws.proofs.Turns.{alternates, one_holder, each_released}
@@ -38,6 +38,7 @@ module _ (configs : List Config) (script : List Event) (log : List Entry) (lawfu
     serves = each_step_serves_first configs script log lawful;
     starts = each_start_subscribes configs script log lawful;
     registered_once = each_registers_once configs log;
+    settled = each_start_settles configs log;
     admitted = each_admitted configs script log lawful;
     checks = checks_are_admitted configs script log lawful;
     checked = each_checked configs script log lawful;

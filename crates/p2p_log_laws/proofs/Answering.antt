@@ -35,7 +35,7 @@ use Rattle.p2p_log.proofs.Each.{Each-weaker, count_by-none}
 use Rattle.p2p_log.proofs.Queues.{same_queue-refl}
 use Rattle.p2p_log_rules.specs.Connections.{is_ended}
 use Rattle.p2p_log_rules.specs.declared.row.Row.{Row}
-use Rattle.p2p_log_rules.specs.Attempting.{Attempt, dial_rules_at, attempts_of, resolved, given_up_row, resolved_row, ready_row, link_of, attempt_took_row, attempt_turn, attempt_by, attempt_row}
+use Rattle.p2p_log_rules.specs.Attempting.{Attempt, dial_rules_at, attempts_of, resolved, given_up_row, resolved_row, handed_on_row, link_of, attempt_took_row, attempt_turn, attempt_by, attempt_row}
 use Rattle.p2p_log_rules.specs.Dialing.{Dials, dials_of, in_drawn_order, last_key, dial_puts, answer_taken_row, due_row, dialer_turn, dialer_row}
 use Rattle.p2p_log_rules.specs.Dropping.{LinkEnd, dialing_end, arriving_end, dropping, attempt_step_row, listener_step_row}
 use Rattle.p2p_log_rules.specs.Puts.{gave_up, turns_away}
@@ -262,7 +262,7 @@ module _ (w : Words) (n name : ℕ) where
     resolved_silent m None key took left = release_silent m key
     resolved_silent m (Some a) key took left = tt
 
-    pub ready_silent : (m : ℕ) (full : Bool) (key : Key) (link : ℕ) (took : ℕ × ℕ) (left : List Envelope) → Each Silent (ready_row m full key link took left).puts
+    pub ready_silent : (m : ℕ) (full : Bool) (key : Key) (link : ℕ) (took : ℕ × ℕ) (left : List Envelope) → Each Silent (handed_on_row m full key link took left).puts
     ready_silent m true key link took left = release_silent m key
     ready_silent m false key link took left = (silent_away (queue.Spawner m) (item.Spawn key link) refl refl, tt)
 
@@ -418,8 +418,8 @@ module _ (w : Words) (n name : ℕ) where
     row_asks : (m : ℕ) → Asks m (listener_row configs log m at).puts
     row_asks m = by (is_up log m)
       where
-        by : (b : Bool) → Asks m (cond b (listener_turn (gate_rules_at configs m) (known_of configs log m) (has_place configs log m) m (length log) at (line log (queue.Update m)) (line log (queue.Arrivals m))) (only reply.Gone)).puts
-        by true = turn_asks m (known_of configs log m) (has_place configs log m) (line log (queue.Update m)) (line log (queue.Arrivals m))
+        by : (b : Bool) → Asks m (cond b (listener_turn (gate_rules_at configs m) (known_of configs log m) (has_place configs log m) m (length log) at (line log (queue.Addresses m)) (line log (queue.Arrivals m))) (only reply.Gone)).puts
+        by true = turn_asks m (known_of configs log m) (has_place configs log m) (line log (queue.Addresses m)) (line log (queue.Arrivals m))
         by false = inl refl
 
     pub listener_asks : (m : ℕ) → Asks m (listener_step_row configs log m at).puts

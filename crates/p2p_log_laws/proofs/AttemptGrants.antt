@@ -15,7 +15,7 @@ use Rattle.p2p_log.specs.Taken.{AreTaken}
 use Rattle.p2p_log.proofs.Each.{Each-weaker}
 use Rattle.p2p_log.proofs.Queues.{same_queue-refl}
 use Rattle.p2p_log_rules.specs.declared.row.Row.{Row}
-use Rattle.p2p_log_rules.specs.Attempting.{Attempt, resolved, left_ends, given_up_row, resolved_row, ready_row, link_of, attempt_took_row, attempt_turn}
+use Rattle.p2p_log_rules.specs.Attempting.{Attempt, resolved, left_ends, given_up_row, resolved_row, handed_on_row, link_of, attempt_took_row, attempt_turn}
 use Rattle.p2p_log_rules.specs.Moves.{Moves}
 use Rattle.p2p_log_rules.specs.Puts.{ends_attempt}
 use Rattle.p2p_log_rules.specs.Rows.{only}
@@ -77,7 +77,7 @@ module _ (n : ℕ) (key : Key) (log : List Entry) (e : ℕ) (at seed : ℕ) (a :
       let none : count_by (puts_release n key) (x ∷ []) ≡ 0 = count_by-one (puts_release n key) x in
       ends_with took left first (x ∷ []) refl (omega (arith, put, none))
 
-  ready : (full : Bool) (link : ℕ) (x : Envelope) (rest : List Envelope) → line log q ≡ x ∷ rest → Ends (ready_row n full a.key link (name_of x) rest)
+  ready : (full : Bool) (link : ℕ) (x : Envelope) (rest : List Envelope) → line log q ≡ x ∷ rest → Ends (handed_on_row n full a.key link (name_of x) rest)
   ready true link x rest first = gives_up (x ∷ []) rest first
   ready false link x rest first = hands_on link (x ∷ []) rest first
 

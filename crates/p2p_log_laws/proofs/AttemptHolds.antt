@@ -13,7 +13,8 @@ use Rattle.p2p_log_rules.specs.Tellings as telling
 use Rattle.p2p_log_rules.specs.Told.{ends, took_tells, tells, told}
 use Rattle.p2p_log_rules.proofs.Attempts.{is_begun, key_of, attempt_told, key_told, attempts_by, attempts_of-append}
 use Rattle.p2p_log_rules.proofs.AttemptTellings.{attempts_of-late}
-use Rattle.p2p_log_rules.proofs.Families.{kind, kinds_of, has, are_apart, untold_of}
+use Rattle.p2p_log_rules.proofs.TellingKinds as kind
+use Rattle.p2p_log_rules.proofs.Families.{telling_kind, kinds_of, has, are_apart, untold_of}
 use Rattle.p2p_log_rules.proofs.Tellings.{or_left, or_right}
 use Rattle.p2p_log_laws.specs.Grants.{one}
 use Rattle.p2p_log_laws.specs.NodeGrants.{count_below, is_attempt_of}
@@ -47,7 +48,7 @@ module _ (rules : DialRules) (n k : ℕ) (key : Key) where
   abbrev bounds : Telling → Bool
   bounds t = is_begun n k t || ends n k t
 
-  bound_kinds : (t : Telling) → has (7 ∷ 13 ∷ []) (kind t) ≡ false → bounds t ≡ false
+  bound_kinds : (t : Telling) → has (kind.attempt_begun ∷ kind.attempt_ended ∷ []) (telling_kind t) ≡ false → bounds t ≡ false
   bound_kinds (telling.attempt_begun m j x ingress at) h = cc
   bound_kinds (telling.attempt_ended m j) h = cc
   bound_kinds _ h = refl
@@ -62,10 +63,10 @@ module _ (rules : DialRules) (n k : ℕ) (key : Key) where
       )
 
   -- an act that tells of neither
-  pub bounded_holds : (log : List Entry) (e : Entry) (o : Option Attempt) → are_apart (kinds_of e.event.act) (7 ∷ 13 ∷ []) ≡ true → is_attempt_of key (attempt_told rules n k (tells (told log) log e) o) ≡ is_attempt_of key o
+  pub bounded_holds : (log : List Entry) (e : Entry) (o : Option Attempt) → are_apart (kinds_of e.event.act) (kind.attempt_begun ∷ kind.attempt_ended ∷ []) ≡ true → is_attempt_of key (attempt_told rules n k (tells (told log) log e) o) ≡ is_attempt_of key o
   bounded_holds log e o apart =
       let us : List Telling = tells (told log) log e in
-      let none = parts us (untold_of bounds (7 ∷ 13 ∷ []) bound_kinds (told log) log e apart) in
+      let none = parts us (untold_of bounds (kind.attempt_begun ∷ kind.attempt_ended ∷ []) bound_kinds (told log) log e apart) in
       told_holds us o none.0 ∙ ap (λ b. cond b false (is_attempt_of key o)) none.1
 
 module _ (configs : List Config) (n : ℕ) (key : Key) where

@@ -28,8 +28,8 @@ use Rattle.p2p_log_rules.specs.Dropping.{LinkEnd, other_side, dialing_end, dropp
 use Rattle.p2p_log_rules.specs.Puts.{gave_up}
 use Rattle.p2p_log_rules.specs.Effect.{entry_of}
 use Rattle.p2p_log_rules.specs.Facts.{is_up, key_at, taken}
-use Rattle.p2p_log_rules.specs.Rows.{only, is_spawner_full}
-use Rattle.p2p_log_rules.specs.Attempting.{Attempt, dial_rules_at, attempts_of, resolved, given_up_row, gone_on_row, resolved_row, ready_row, link_of, attempt_took_row, attempt_turn, attempt_by, attempt_row, attempt_told_row, resolve_by, resolve_row, link_item, dial_answered_row, refuse_row, connected_row, connect_row}
+use Rattle.p2p_log_rules.specs.Rows.{only, is_spawner_full, taken_row}
+use Rattle.p2p_log_rules.specs.Attempting.{Attempt, dial_rules_at, attempts_of, resolved, given_up_row, resolved_row, handed_on_row, link_of, attempt_took_row, attempt_turn, attempt_by, attempt_row, attempt_told_row, resolve_by, resolve_row, link_item, dial_answered_row, refuse_row, connected_row, connect_row}
 use Rattle.p2p_log_laws.proofs.Reaching.{in_flight, writes, ends_in}
 use Rattle.p2p_log_laws.proofs.DropShape.{attempt_aside, dropping_shape}
 use Rattle.p2p_log_laws.proofs.LineShape.{Within, still_within, ended_within, asking_within}
@@ -58,11 +58,11 @@ module _ (configs : List Config) (log : List Entry) (e n : ℕ) where
   given_up_within took left first key = ended_within configs log a q (same_queue-refl q) refl (λ r. refl) written took left first ((queue.Tracker n, item.Release key) ∷ []) ((refl, refl), tt) (asks, tt)
 
   -- it takes this, and goes on
-  taken_within : (x : Envelope) (rest : List Envelope) → line log q ≡ x ∷ rest → Within configs log a q (gone_on_row (name_of x))
+  taken_within : (x : Envelope) (rest : List Envelope) → line log q ≡ x ∷ rest → Within configs log a q (taken_row (name_of x))
   taken_within x rest first = asking_within configs log a q (same_queue-refl q) refl (λ r. refl) x rest first [] tt tt
 
   -- its keys were exchanged
-  ready_within : (full : Bool) (key : Key) (link : ℕ) (x : Envelope) (rest : List Envelope) → line log q ≡ x ∷ rest → Within configs log a q (ready_row n full key link (name_of x) rest)
+  ready_within : (full : Bool) (key : Key) (link : ℕ) (x : Envelope) (rest : List Envelope) → line log q ≡ x ∷ rest → Within configs log a q (handed_on_row n full key link (name_of x) rest)
   ready_within true key link x rest first = given_up_within (x ∷ []) rest first key
   ready_within false key link x rest first =
       ended_within configs log a q (same_queue-refl q) refl (λ r. refl) written (x ∷ []) rest first ((queue.Spawner n, item.Spawn key link) ∷ []) ((refl, refl), tt) (spawns, tt)

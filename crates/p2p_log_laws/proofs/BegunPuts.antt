@@ -159,7 +159,7 @@ module _ (n conn : ℕ) (log : List Entry) where
   half_begins : (configs : List Config) (at : ℕ) (half : Half) (begun running : Bool) → is_begun log n conn ≡ begun → (n == n) ≡ true → (conn == conn) ≡ true
       → BeginsOnce (act.SendStep conn n) (half_row configs log n conn at half begun running)
   half_begins configs at half false running is self same = begin_begins half.peer is self same
-  half_begins configs at half true false is self same = oldest_begins (act.SendStep conn n) (line log (queue.Ready n conn))
+  half_begins configs at half true false is self same = oldest_begins (act.SendStep conn n) (line log (queue.RouterAnswer n conn))
   half_begins configs at half true true is self same = running_begins configs half (ping_is_due configs log n conn at)
 
   sender_begins : (configs : List Config) (at : ℕ) (o : Option Half) → (n == n) ≡ true → (conn == conn) ≡ true → BeginsOnce (act.SendStep conn n) (sender_row configs log n conn at o)

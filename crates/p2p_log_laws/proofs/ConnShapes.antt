@@ -162,25 +162,25 @@ write_shape configs log conn n half false [] at stood relayed = still configs lo
 write_shape configs log conn n half false (y ∷ ys) at stood relayed = written_shape configs log conn n half false (y ∷ ys) at stood relayed
 write_shape configs log conn n half true ys at stood relayed = written_shape configs log conn n half true ys at stood relayed
 
-answer_bare : (n conn : ℕ) (i : Item) → fits (queue.Ready n conn) i ≡ true → is_bare i ≡ true
+answer_bare : (n conn : ℕ) (i : Item) → fits (queue.RouterAnswer n conn) i ≡ true → is_bare i ≡ true
 answer_bare n c (item.Content d frame priority send to) h = absurd (cc)
 answer_bare n c (item.Frame copy frame) h = absurd (cc)
 answer_bare n c (item.Held d bytes copy) h = absurd (cc)
 answer_bare n c (item.Message bytes copy from) h = absurd (cc)
 answer_bare n c _ h = refl
 
-begin_shape : (configs : List Config) (log : List Entry) (conn n : ℕ) (xs : List Envelope) → line log (queue.Ready n conn) ≡ xs
+begin_shape : (configs : List Config) (log : List Entry) (conn n : ℕ) (xs : List Envelope) → line log (queue.RouterAnswer n conn) ≡ xs
     → Shape configs log (act.SendStep conn n) (Effect.takes_oldest xs)
 begin_shape configs log conn n [] e = still configs log (act.SendStep conn n) reply.Idle refl refl
 begin_shape configs log conn n (x ∷ rest) e =
     let r : Row = Effect.takes_oldest (x ∷ rest) in
     record {
-      moves = one_move log (queue.Ready n conn) x rest e r refl refl;
-      reach = record { taken = (first_in (reads configs log (act.SendStep conn n)) log (queue.Ready n conn) x rest e (both n conn), tt); ended = tt; puts = tt };
+      moves = one_move log (queue.RouterAnswer n conn) x rest e r refl refl;
+      reach = record { taken = (first_in (reads configs log (act.SendStep conn n)) log (queue.RouterAnswer n conn) x rest e (both n conn), tt); ended = tt; puts = tt };
       laws = λ fitting.
-          let fit : fits x.queue x.item ≡ true = first_has StandsFit log (queue.Ready n conn) x rest fitting e in
-          let light : is_bare x.item ≡ true = answer_bare n conn x.item (subst (λ q. fits q x.item ≡ true) (one_taken log (queue.Ready n conn) x rest e) fit) in
-          quiet_laws configs log (act.SendStep conn n) r (one_move log (queue.Ready n conn) x rest e r refl refl) refl refl (light, tt) tt tt tt;
+          let fit : fits x.queue x.item ≡ true = first_has StandsFit log (queue.RouterAnswer n conn) x rest fitting e in
+          let light : is_bare x.item ≡ true = answer_bare n conn x.item (subst (λ q. fits q x.item ≡ true) (one_taken log (queue.RouterAnswer n conn) x rest e) fit) in
+          quiet_laws configs log (act.SendStep conn n) r (one_move log (queue.RouterAnswer n conn) x rest e r refl refl) refl refl (light, tt) tt tt tt;
     }
 
 -- it begins: its tracker and its router are told
@@ -254,7 +254,7 @@ module _ (configs : List Config) (log : List Entry) (conn n : ℕ) (half : Half)
 
   half_shape : (moment : ℕ) (begun running : Bool) → Shape configs log a (Effect.half_row configs log n conn moment half begun running)
   half_shape moment false running = start_shape configs log conn n half at
-  half_shape moment true false = begin_shape configs log conn n (line log (queue.Ready n conn)) refl
+  half_shape moment true false = begin_shape configs log conn n (line log (queue.RouterAnswer n conn)) refl
   half_shape moment true true = running_shape (ping_is_due configs log n conn moment)
 
 -- ---- the step

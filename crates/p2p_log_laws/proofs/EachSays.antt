@@ -36,7 +36,7 @@ use Rattle.p2p_log_rules.specs.declared.row.Opening.{Opening}
 use Rattle.p2p_log_rules.specs.declared.row.ListeningEnd.{ListeningEnd}
 use Rattle.p2p_log_rules.specs.declared.row.ListeningEnd.TheVariants as listening
 use Rattle.p2p_log_rules.specs.declared.row.Row.{Row}
-use Rattle.p2p_log_rules.specs.Attempting.{Attempt, dial_rules_at, attempts_of, resolved, given_up_row, resolved_row, ready_row, link_of, attempt_took_row, attempt_turn, attempt_by, attempt_row, resolve_by, resolve_row, refuse_row, connect_row}
+use Rattle.p2p_log_rules.specs.Attempting.{Attempt, dial_rules_at, attempts_of, resolved, given_up_row, resolved_row, handed_on_row, link_of, attempt_took_row, attempt_turn, attempt_by, attempt_row, resolve_by, resolve_row, refuse_row, connect_row}
 use Rattle.p2p_log_rules.specs.Dropping.{dialing_end, attempt_step_row, handshake_step_row}
 use Rattle.p2p_log_rules.specs.Puts.{gave_up, broke_off}
 use Rattle.p2p_log_rules.specs.Effect.{effect, row}
@@ -44,7 +44,7 @@ use Rattle.p2p_log_rules.specs.Facts.{is_up, key_at}
 use Rattle.p2p_log_rules.specs.Handshakes.{is_handshaking, is_finished, source_at, peer_at}
 use Rattle.p2p_log_rules.specs.Handshaking.{handshake_deadline, handshake_took_row, is_due, handshake_turn, handshake_row}
 use Rattle.p2p_log_rules.specs.Cutting.{is_cut}
-use Rattle.p2p_log_rules.specs.Links.{openings_of, listening_ends_of, is_dialed, accepts, exchanged, dialing_puts, listening_puts, finished_row, verdict, finish_by, finish_row}
+use Rattle.p2p_log_rules.specs.Links.{openings_of, listening_ends_of, is_dialed, accepts_peer, exchanged, dialing_puts, listening_puts, finished_row, verdict, finish_by, finish_row}
 use Rattle.p2p_log_rules.specs.Rows.{only, is_spawner_full}
 use Rattle.p2p_log_rules.specs.Tracking.{key_cmp, rules_at, asked_by, calls_of, update_subscriptions, blocked_subscriptions}
 use Rattle.p2p_log_rules.specs.TrackerPuts as puts
@@ -174,7 +174,7 @@ module _ (configs : List Config) (log : List Entry) where
           by true = step_says (puts.is_some_of (due_keys key_cmp (rules_at configs n) (calls_of configs log n) at))
           by false = tt
 
-    ready_says : (n : ℕ) (full : Bool) (key : Key) (link : ℕ) (name : ℕ × ℕ) (left : List Envelope) → LeadsTo configs log n key link → Each P (ready_row n full key link name left).puts
+    ready_says : (n : ℕ) (full : Bool) (key : Key) (link : ℕ) (name : ℕ × ℕ) (left : List Envelope) → LeadsTo configs log n key link → Each P (handed_on_row n full key link name left).puts
     ready_says n true key link name left leads = (tt, tt)
     ready_says n false key link name left leads = (leads, tt)
 
@@ -281,7 +281,7 @@ module _ (configs : List Config) (log : List Entry) where
     dialing_says (Some a) end here false so = (tt, tt)
     dialing_says (Some a) end here true so =
         let made : IsOpened configs log link o = opened link o is in
-        let both = and_parts ok (a.key.0 == (key_at configs o.to).0) (agreed ((is_some (Some a.key) && is_some end) && not (is_cut log link)) (ok && is_dialed (key_at configs o.to) (Some a.key)) (accepts log o.to end) so) in (
+        let both = and_parts ok (a.key.0 == (key_at configs o.to).0) (agreed ((is_some (Some a.key) && is_some end) && not (is_cut log link)) (ok && is_dialed (key_at configs o.to) (Some a.key)) (accepts_peer log o.to end) so) in (
           (
             made.early,
             λ b standing.

@@ -22,7 +22,7 @@ use Rattle.p2p_log.specs.Lines.{name_of, line}
 use Rattle.p2p_log.proofs.Each.{Each-has, Has-get}
 use Rattle.p2p_log_rules.specs.declared.row.Opening.{Opening}
 use Rattle.p2p_log_rules.specs.declared.row.Row.{Row}
-use Rattle.p2p_log_rules.specs.Attempting.{Attempt, dial_rules_at, resolved, attempts_of, given_up_row, resolved_row, ready_row, link_of, attempt_took_row, attempt_turn, attempt_by, attempt_row}
+use Rattle.p2p_log_rules.specs.Attempting.{Attempt, dial_rules_at, resolved, attempts_of, given_up_row, resolved_row, handed_on_row, link_of, attempt_took_row, attempt_turn, attempt_by, attempt_row}
 use Rattle.p2p_log_rules.proofs.Attempts.{attempt_told}
 use Rattle.p2p_log_rules.proofs.AttemptTellings.{attempts_of-stepped}
 use Rattle.p2p_log_rules.specs.Dropping.{LinkEnd, dropping, dialing_end, attempt_step_row, handshake_step_row}
@@ -82,7 +82,7 @@ module _ (log : List Entry) (n : ℕ) where
     given_up_hands : (key : Key) (names : List (ℕ × ℕ)) (left : List Envelope) → Hands W m link (given_up_row m key names left)
     given_up_hands key names left p i at = absurd (other_put (queue.Tracker m) (item.Release key) (λ e. cc) p i at)
 
-    ready_hands : (full : Bool) (key : Key) (name : ℕ × ℕ) (left : List Envelope) (word : Item) → item_named log name ≡ word ∷ [] → W word → Hands W m link (ready_row m full key link name left)
+    ready_hands : (full : Bool) (key : Key) (name : ℕ × ℕ) (left : List Envelope) (word : Item) → item_named log name ≡ word ∷ [] → W word → Hands W m link (handed_on_row m full key link name left)
     ready_hands true key name left word named such p i at = given_up_hands key (name ∷ []) left p i at
     ready_hands false key name left word named such zero i at =
         let same : ◌≡◌ {A = Queue × Item} (queue.Spawner m, item.Spawn key link) (queue.Spawner n, i) =

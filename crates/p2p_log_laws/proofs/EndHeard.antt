@@ -29,7 +29,7 @@ use Rattle.p2p_log.proofs.Taken.{Each-taken}
 use Rattle.p2p_log_rules.specs.declared.row.Half.{Half}
 use Rattle.p2p_log_rules.specs.declared.row.Opening.{Opening}
 use Rattle.p2p_log_rules.specs.declared.row.Row.{Row}
-use Rattle.p2p_log_rules.specs.Connections.{live_half, is_done, is_answer, begins, runs, is_begun, has_run, is_running, is_ended}
+use Rattle.p2p_log_rules.specs.Connections.{live_half, is_done, is_answer, begins_connection, runs, is_begun, has_run, is_running, is_ended}
 use Rattle.p2p_log_rules.specs.Cutting.{is_broken}
 use Rattle.p2p_log_rules.specs.Dropping.{other_side}
 use Rattle.p2p_log_rules.specs.Effect
@@ -73,7 +73,7 @@ abbrev tells_ready : ℕ → ℕ → Queue × Item → Bool
 tells_ready n conn x = at_router n x.0 && names_ready conn x.1
 
 abbrev at_ready : ℕ → ℕ → Queue → Bool
-at_ready n conn (queue.Ready m e) = (m == n) && (e == conn)
+at_ready n conn (queue.RouterAnswer m e) = (m == n) && (e == conn)
 at_ready n conn _ = false
 
 abbrev puts_answer : ℕ → ℕ → Queue × Item → Bool
@@ -186,7 +186,7 @@ module _ (n conn : ℕ) (log : List Entry) where
   half_tells : (configs : List Config) (at : ℕ) (half : Half) (begun running : Bool) → is_begun log n conn ≡ begun → (n == n) ≡ true → (conn == conn) ≡ true
       → TellsOnce (act.SendStep conn n) (Effect.half_row configs log n conn at half begun running)
   half_tells configs at half false running is self same = begin_tells half.peer is self same
-  half_tells configs at half true false is self same = oldest_tells (act.SendStep conn n) (line log (queue.Ready n conn))
+  half_tells configs at half true false is self same = oldest_tells (act.SendStep conn n) (line log (queue.RouterAnswer n conn))
   half_tells configs at half true true is self same = running_tells configs half (ping_is_due configs log n conn at)
 
   sender_tells : (configs : List Config) (at : ℕ) (o : Option Half) → (n == n) ≡ true → (conn == conn) ≡ true → TellsOnce (act.SendStep conn n) (Effect.sender_row configs log n conn at o)
@@ -254,7 +254,7 @@ module _ (n conn : ℕ) (log : List Entry) where
       by : (ended : Bool) → AnswersWhat m (i ∷ []) (Effect.ready_row log m name e key ended items)
       by true = none_answered m (i ∷ []) (Effect.ready_row log m name e key true items) unanswered
       by false =
-          let answer : Queue × Item = (queue.Ready m e, item.Answer) in
+          let answer : Queue × Item = (queue.RouterAnswer m e, item.RouterAnswer) in
           let first : count_by (puts_answer n conn) (answer ∷ lists) ≡ one (((m == n) && (e == conn)) && true) + count_by (puts_answer n conn) lists = sum_by-cons (λ x. one (puts_answer n conn x)) answer lists in
           let told : count_by (λ j. (m == n) && names_ready conn j) (i ∷ []) ≡ one ((m == n) && (e == conn)) + 0 = sum_by-cons (λ j. one ((m == n) && names_ready conn j)) i [] in
           counted ((m == n) && (e == conn)) (count_by (puts_answer n conn) (answer ∷ lists)) (count_by (puts_answer n conn) lists) (count_by (λ j. (m == n) && names_ready conn j) (i ∷ [])) first
@@ -322,19 +322,19 @@ module _ (n conn : ℕ) (log : List Entry) where
     unanswered : Each Unanswered r.puts → AnswersTold
     unanswered puts = at_most (count_by (puts_answer n conn) r.puts) (weight (tells_ready n conn) shape.moves.taken) (count_by-none (puts_answer n conn) r.puts puts)
 
-    aside : writes configs log ev.act (queue.Ready n conn) ≡ false → AnswersTold
+    aside : writes configs log ev.act (queue.RouterAnswer n conn) ≡ false → AnswersTold
     aside other =
         unanswered
         (Each-weaker (λ (x : Queue × Item). writes configs log ev.act x.0 ≡ true) Unanswered (λ x put. away x.0 x.1 put) r.puts shape.reach.puts)
       where
         away : (q : Queue) (i : Item) → writes configs log ev.act q ≡ true → puts_answer n conn (q, i) ≡ false
-        away (queue.Ready m c) i put = ap (λ b. b && is_answer i) (by ((m == n) && (c == conn)) refl)
+        away (queue.RouterAnswer m c) i put = ap (λ b. b && is_answer i) (by ((m == n) && (c == conn)) refl)
           where
             by : (b : Bool) → ((m == n) && (c == conn)) ≡ b → b ≡ false
             by false is = refl
             by true is =
                 let both = and_parts (m == n) (c == conn) is in
-                absurd (false≢true (sym other ∙ (ap (λ k. writes configs log ev.act (queue.Ready k conn)) (sym (eqb-true m n both.0)) ∙ (ap (λ k. writes configs log ev.act (queue.Ready m k)) (sym (eqb-true c conn both.1)) ∙ put))))
+                absurd (false≢true (sym other ∙ (ap (λ k. writes configs log ev.act (queue.RouterAnswer k conn)) (sym (eqb-true m n both.0)) ∙ (ap (λ k. writes configs log ev.act (queue.RouterAnswer m k)) (sym (eqb-true c conn both.1)) ∙ put))))
         away _ i put = refl
 
     -- no half puts an answer
@@ -342,7 +342,7 @@ module _ (n conn : ℕ) (log : List Entry) where
     by_half c m (inl step) = unanswered step.1
     by_half c m (inr last) = unanswered (subst (Each Unanswered) (sym last.puts) (refl, (refl, tt)))
 
-    ends_aside : (o : Option Opening) → in_ends o (queue.Ready n conn) ≡ false
+    ends_aside : (o : Option Opening) → in_ends o (queue.RouterAnswer n conn) ≡ false
     ends_aside None = refl
     ends_aside (Some o) = refl
 
@@ -355,15 +355,15 @@ module _ (n conn : ℕ) (log : List Entry) where
         by (act.SendStep c m) acts =
             by_half c m
             (subst (λ a. IsStep Unanswered log m c (row configs log ev.at ev.seed a)) (sym acts) (send_is configs log c m ev.at Unanswered (λ key. refl) (λ key. refl) (λ link s i. refl)))
-        by (act.Finish link ok) acts = aside (ap (λ a. writes configs log a (queue.Ready n conn)) acts ∙ ends_aside (openings_of log link))
-        by a acts = aside (ap (λ k. writes configs log k (queue.Ready n conn)) acts)
+        by (act.Finish link ok) acts = aside (ap (λ a. writes configs log a (queue.RouterAnswer n conn)) acts ∙ ends_aside (openings_of log link))
+        by a acts = aside (ap (λ k. writes configs log k (queue.RouterAnswer n conn)) acts)
 
     -- ---- it runs once it takes its router's answer
 
     -- of what a sending half takes only its router's answer is one
     answer_there : (q : Queue) (i : Item) → reads configs log (act.SendStep conn n) q ≡ true → fits q i ≡ true → is_answer i ≡ true → at_ready n conn q ≡ true
-    answer_there (queue.Ready m c) item.Answer read fit is = read
-    answer_there _ item.Answer read fit is = absurd (false≢true fit)
+    answer_there (queue.RouterAnswer m c) item.RouterAnswer read fit is = read
+    answer_there _ item.RouterAnswer read fit is = absurd (false≢true fit)
     answer_there _ _ read fit is = absurd (false≢true is)
 
     answer_weight : (xs : List Envelope) → Each (λ x. reads configs log (act.SendStep conn n) x.queue ≡ true) xs → Each StandsFit xs → one (list_any is_answer (map (λ x. x.item) xs)) ≤ weight (puts_answer n conn) xs
@@ -425,7 +425,7 @@ module _ (configs : List Config) (n conn : ℕ) where
       let told : Told configs before = Told-end configs script before lawful in
       let m : Moves before r = (row_shape configs before ev.at ev.seed ev.act).moves in
       let took : Bool = runs n conn before e in
-      let begins : one (is_begun before n conn) + count_by (tells_ready n conn) r.puts ≤ one (is_begun (before ++ e ∷ []) n conn) =
+      let begins_connection : one (is_begun before n conn) + count_by (tells_ready n conn) r.puts ≤ one (is_begun (before ++ e ∷ []) n conn) =
       subst (λ b. one (is_begun before n conn) + count_by (tells_ready n conn) r.puts ≤ one b) (sym (is_begun-append before e n conn ∙ ap (λ b. is_begun before n conn || b) (begins_is before e n conn)))
       (each_tells n conn before configs ev.at ev.seed ev.act told.standing.fitting)
       in
@@ -436,7 +436,7 @@ module _ (configs : List Config) (n conn : ℕ) where
       (weight (tells_ready n conn) m.taken) (weight (tells_ready n conn) m.ended) (weight (puts_answer n conn) m.taken) (weight (puts_answer n conn) m.ended)
       (count_by (tells_ready n conn) r.puts) (count_by (puts_answer n conn) r.puts) (one took) (one (has_run before n conn)) (one (has_run (before ++ e ∷ []) n conn))
       (one (is_begun before n conn)) (one (is_begun (before ++ e ∷ []) n conn))
-      (weighed before ev r m (tells_ready n conn)) (weighed before ev r m (puts_answer n conn)) (answers_told n conn before configs ev) (takes_answer n conn before configs ev told.standing.fitting) runs begins old
+      (weighed before ev r m (tells_ready n conn)) (weighed before ev r m (puts_answer n conn)) (answers_told n conn before configs ev) (takes_answer n conn before configs ev told.standing.fitting) runs begins_connection old
 
   heard_once : (script : List Event) (log : List Entry) → IsLawful configs script log → IsHeardOnce log
   heard_once script log lawful = lawful_at_end configs IsHeardOnce heard_first heard_more script log lawful

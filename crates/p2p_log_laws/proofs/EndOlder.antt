@@ -15,7 +15,7 @@ use Rattle.p2p_log_rules.specs.Connections.{is_ended, live_connection}
 use Rattle.p2p_log_rules.specs.Facts.{key_at}
 use Rattle.p2p_log_rules.specs.Lawful.{IsLawful}
 use Rattle.p2p_log_rules.specs.Spawning.{Spawned, connections_of}
-use Rattle.p2p_log_rules.specs.Tracking.{key_cmp, no_rules, rules_of, rules_at, calls_of}
+use Rattle.p2p_log_rules.specs.Tracking.{key_cmp, no_rules, tracker_rules_of, rules_at, calls_of}
 use Rattle.p2p_log_rules.proofs.Connections.{is_ended-kept, ends_untold}
 use Rattle.p2p_log_rules.proofs.Spawning.{connections_of-late}
 use Rattle.p2p_log_laws.specs.Grants.{one, is_held, is_stopped}
@@ -110,7 +110,7 @@ abbrev key_in : Option Config → Key
 key_in o = elim o [ None ↦ record { 0 = 0 } | Some c ↦ c.public_key ]
 
 abbrev local_in : Option Config → Key
-local_in o = (elim o as (λ x. Rules Key) [ None ↦ no_rules | Some c ↦ rules_of c ]).local
+local_in o = (elim o as (λ x. Rules Key) [ None ↦ no_rules | Some c ↦ tracker_rules_of c ]).local
 
 -- a node's tracker has the node's own key
 pub own_key : (configs : List Config) (n : ℕ) → is_local key_cmp (rules_at configs n) (key_at configs n) ≡ true

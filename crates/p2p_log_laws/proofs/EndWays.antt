@@ -28,7 +28,7 @@ use Rattle.p2p_log.proofs.Places.{slice_get-seam}
 use Rattle.p2p_log.proofs.Sending.{get_longer}
 use Rattle.p2p_log_rules.specs.declared.row.Opening.{Opening}
 use Rattle.p2p_log_rules.specs.declared.row.Row.{Row}
-use Rattle.p2p_log_rules.specs.Attempting.{Attempt, DialRules, dial_rules_at, answers, attempt_since, attempt_by_last, attempts_of, connect_row}
+use Rattle.p2p_log_rules.specs.Attempting.{Attempt, DialRules, dial_rules_at, answers_dial, attempt_since, attempt_by_last, attempts_of, connect_row}
 use Rattle.p2p_log_rules.specs.Effect.{effect, row}
 use Rattle.p2p_log_rules.specs.Facts.{item_named, key_at, taken, state_from}
 use Rattle.p2p_log_rules.specs.Handshakes.{handshakes_of, is_handshaking, peer_of, peer_at}
@@ -36,8 +36,9 @@ use Rattle.p2p_log_rules.specs.Lawful.{IsLawful}
 use Rattle.p2p_log_rules.specs.Links.{openings_of}
 use Rattle.p2p_log_rules.specs.Tellings.{Telling, Last, or_last, last_told, last_or}
 use Rattle.p2p_log_rules.specs.Tellings as telling
-use Rattle.p2p_log_rules.specs.Told.{Begun, begins, ends, act_tells, tells, told}
-use Rattle.p2p_log_rules.proofs.Families.{kind, has, untold_act}
+use Rattle.p2p_log_rules.specs.Told.{Begun, begun_as, ends, act_tells, tells, told}
+use Rattle.p2p_log_rules.proofs.TellingKinds as kind
+use Rattle.p2p_log_rules.proofs.Families.{telling_kind, has, untold_act}
 use Rattle.p2p_log_rules.proofs.Ignoring.{by_entries}
 use Rattle.p2p_log_rules.proofs.Tellings.{told-append}
 use Rattle.p2p_log_rules.proofs.Told.{quiet_act}
@@ -75,14 +76,14 @@ module _ (n k l : ℕ) where
   answered_by (telling.dial_answered m j event) = ((m == n) && (k == j)) && (event == l)
   answered_by _ = false
 
-  answered_kinds : (t : Telling) → has (9 ∷ []) (kind t) ≡ false → answered_by t ≡ false
+  answered_kinds : (t : Telling) → has (kind.dial_answered ∷ []) (telling_kind t) ≡ false → answered_by t ≡ false
   answered_kinds (telling.dial_answered m j event) h = cc
   answered_kinds _ h = refl
 
   -- the last answer that was told, or else the one before
-  last_answer : (ts : List Telling) (o : Option ℕ) → last_or o (answers n k) ts ≡ Some l → (o ≡ Some l) ⊎ (list_any answered_by ts ≡ true)
+  last_answer : (ts : List Telling) (o : Option ℕ) → last_or o (answers_dial n k) ts ≡ Some l → (o ≡ Some l) ⊎ (list_any answered_by ts ≡ true)
   last_answer [] o is = inl is
-  last_answer (t ∷ ts) o is = elim (last_answer ts (unwrap_or (answers n k t) o) is) [
+  last_answer (t ∷ ts) o is = elim (last_answer ts (unwrap_or (answers_dial n k t) o) is) [
     | inl before ↦ one t before
     | inr later ↦ inr (or_more (answered_by t) (list_any answered_by ts) later)
   ]
@@ -91,7 +92,7 @@ module _ (n k l : ℕ) where
       named true event is = inr (ap (λ c. c || list_any answered_by ts) (eq-eqb event l (same_Some event l is)))
       named false event is = inl is
 
-      one : (t : Telling) → unwrap_or (answers n k t) o ≡ Some l → (o ≡ Some l) ⊎ (list_any answered_by (t ∷ ts) ≡ true)
+      one : (t : Telling) → unwrap_or (answers_dial n k t) o ≡ Some l → (o ≡ Some l) ⊎ (list_any answered_by (t ∷ ts) ≡ true)
       one (telling.dial_answered m j event) is = named ((m == n) && (k == j)) event is
       one _ is = inl is
 
@@ -111,12 +112,12 @@ module _ (n k l : ℕ) where
   -- an attempt with this answer was told it
   answer_told : (configs : List Config) (log : List Entry) (a : Attempt) → attempts_of configs log n k ≡ Some a → a.answer ≡ Some l → list_any answered_by (told log) ≡ true
   unfolding attempts_of
-  answer_told configs log a is answer = by (last_told (begins n k) (told log)) refl is
+  answer_told configs log a is answer = by (last_told (begun_as n k) (told log)) refl is
     where
       rules : DialRules
       rules = dial_rules_at configs n
 
-      by : (o : Option (Last Begun)) → last_told (begins n k) (told log) ≡ o → attempt_by_last n k rules o ≡ Some a → list_any answered_by (told log) ≡ true
+      by : (o : Option (Last Begun)) → last_told (begun_as n k) (told log) ≡ o → attempt_by_last n k rules o ≡ Some a → list_any answered_by (told log) ≡ true
       by None there so = absurd (cc)
       by (Some x) there so = stands (list_any (ends n k) x.since) so
         where
@@ -124,7 +125,7 @@ module _ (n k l : ℕ) where
           stands true so = absurd (cc)
           stands false so = elim (last_answer x.since None (ap (λ (y : Attempt). y.answer) (same_Some (attempt_since n k rules x.told x.since) a so) ∙ answer)) [
             | inl none ↦ absurd (cc)
-            | inr said ↦ since_told (begins n k) (told log) x there said
+            | inr said ↦ since_told (begun_as n k) (told log) x there said
           ]
 
   -- only the act of this name tells it, and is an answer to this attempt
@@ -153,7 +154,7 @@ module _ (n k l : ℕ) where
       by (act.Connect e from m to) =
           named (act.Connect e from m to) ((m == n) && (k == e)) refl (λ h. quiet_act answered_by name at ts before seed r items puts (act.Connect e from m to) (h, refl))
       by (act.Refuse e m) = named (act.Refuse e m) ((m == n) && (k == e)) refl (λ h. quiet_act answered_by name at ts before seed r items puts (act.Refuse e m) h)
-      by a = silent a (untold_act answered_by (9 ∷ []) answered_kinds ts before name at seed r items puts a refl)
+      by a = silent a (untold_act answered_by (kind.dial_answered ∷ []) answered_kinds ts before name at seed r items puts a refl)
 
   abbrev IsAnsweredIn : List Entry → Type 0
   IsAnsweredIn log = list_any answered_by (told log) ≡ true → (e : Entry) × (slice_get log l ≡ Some e) × (answers_attempt n k e.event.act ≡ true)

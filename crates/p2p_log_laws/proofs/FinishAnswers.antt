@@ -27,7 +27,7 @@ use Rattle.p2p_log_rules.specs.Effect.{entry_of}
 use Rattle.p2p_log_rules.specs.Handshakes.{is_accepted, takes_acceptance}
 use Rattle.p2p_log_rules.proofs.HandshakeTook.{takes_none}
 use Rattle.p2p_log_rules.specs.Cutting.{is_cut}
-use Rattle.p2p_log_rules.specs.Links.{openings_of, listening_ends_of, is_dialed, accepts, exchanged, dialing_puts, listening_puts, finished_row, verdict, finish_by, finish_row}
+use Rattle.p2p_log_rules.specs.Links.{openings_of, listening_ends_of, is_dialed, accepts_peer, exchanged, dialing_puts, listening_puts, finished_row, verdict, finish_by, finish_row}
 use Rattle.p2p_log_rules.specs.Facts.{key_at}
 use Rattle.p2p_log_rules.specs.Rows.{only}
 use Rattle.p2p_log_laws.specs.Grants.{one}
@@ -123,7 +123,7 @@ module _ (w : Words) (sound : (w.acceptance && w.refusal) ≡ false) (n name : �
   -- ---- its row
 
   by_end : (o : Opening) → openings_of log link ≡ Some o → (agree : Bool) (dialing : Option Attempt) (end : Option ListeningEnd) → listening_ends_of log o.to link ≡ end
-      → (agree ≡ true → accepts log o.to end ≡ true) → Answers w n name log ev (told o agree dialing end)
+      → (agree ≡ true → accepts_peer log o.to end ≡ true) → Answers w n name log ev (told o agree dialing end)
   by_end o is agree dialing None ends accepted = aside o agree dialing None tt
   by_end o is agree dialing (Some listening.Arriving) ends accepted = aside o agree dialing (Some listening.Arriving) tt
   by_end o is agree dialing (Some (listening.Handshake h)) ends accepted = by ((o.to == n) && (h == name)) refl
@@ -140,7 +140,7 @@ module _ (w : Words) (sound : (w.acceptance && w.refusal) ≡ false) (n name : �
   by_verdict o is dialing dialed end ends None said = quiet w n name log ev (only reply.Pending) (no_moves log (only reply.Pending) refl refl) tt (none_now (only reply.Pending))
   by_verdict o is dialing dialed end ends (Some agree) said =
       by_end o is agree dialing end ends
-      (λ so. agreed ((is_some dialed && is_some end) && not (is_cut log link)) (ok && is_dialed (key_at configs o.to) dialed) (accepts log o.to end) (said ∙ ap Some so))
+      (λ so. agreed ((is_some dialed && is_some end) && not (is_cut log link)) (ok && is_dialed (key_at configs o.to) dialed) (accepts_peer log o.to end) (said ∙ ap Some so))
 
   pub finish_answers : Answers w n name log ev (finish_row configs log link ok)
   finish_answers = by (openings_of log link) refl

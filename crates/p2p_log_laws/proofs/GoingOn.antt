@@ -15,7 +15,7 @@ use Rattle.p2p_log.specs.declared.event.Act.{Act}
 use Rattle.p2p_log.specs.declared.event.Act.TheVariants as act
 use Rattle.p2p_log.specs.declared.event.Event.{Event}
 use Rattle.p2p_log_rules.specs.declared.row.Row.{Row}
-use Rattle.p2p_log_rules.specs.Attempting.{Attempt, dial_rules_at, answers, attempts_of, refuse_row, connect_row}
+use Rattle.p2p_log_rules.specs.Attempting.{Attempt, dial_rules_at, answers_dial, attempts_of, refuse_row, connect_row}
 use Rattle.p2p_log_rules.specs.Effect.{effect, entry_of, row}
 use Rattle.p2p_log_rules.specs.Facts.{taken}
 use Rattle.p2p_log_rules.specs.Tellings.{Telling}
@@ -23,7 +23,8 @@ use Rattle.p2p_log_rules.specs.Tellings as telling
 use Rattle.p2p_log_rules.specs.Told.{act_tells, told}
 use Rattle.p2p_log_rules.proofs.Attempts.{Stood, stood_before}
 use Rattle.p2p_log_rules.proofs.AttemptTellings.{attempts_of-act, none_begun}
-use Rattle.p2p_log_rules.proofs.Families.{kind, has, untold_act}
+use Rattle.p2p_log_rules.proofs.TellingKinds as kind
+use Rattle.p2p_log_rules.proofs.Families.{telling_kind, has, untold_act}
 use Rattle.p2p_log_rules.proofs.Ignoring.{reads_some, last_or-none}
 use Rattle.p2p_log_rules.proofs.Told.{quiet_act}
 use Rattle.p2p_log_laws.proofs.Linking.{IsFree, IsUnanswered, IsRefused, refuse_is, IsAnswer, connect_is}
@@ -42,7 +43,7 @@ IsFirstAnswer attempts (act.Refuse e n) r = r ≡ reply.Ok → (b : Attempt) →
 IsFirstAnswer attempts _ r = Unit {0}
 
 module _ (n k : ℕ) where
-  answer_kinds : (t : Telling) → has (9 ∷ []) (kind t) ≡ false → reads_some (answers n k) t ≡ false
+  answer_kinds : (t : Telling) → has (kind.dial_answered ∷ []) (telling_kind t) ≡ false → reads_some (answers_dial n k) t ≡ false
   answer_kinds (telling.dial_answered m j event) h = cc
   answer_kinds _ h = refl
 
@@ -53,7 +54,7 @@ module _ (n k : ℕ) where
   module _ (attempts : ℕ → ℕ → Option Attempt) (b : Attempt) (link : ℕ) (stood : attempts n k ≡ Some b) (answered : b.answer ≡ Some link)
       (ts : List Telling) (before : List Entry) (name at seed : ℕ) (items : List Item) (puts : List (Queue × Item)) where
     abbrev Quiet : Reply → Act → Type 0
-    Quiet r a = list_any (reads_some (answers n k)) (act_tells ts before name at seed r items puts a) ≡ false
+    Quiet r a = list_any (reads_some (answers_dial n k)) (act_tells ts before name at seed r items puts a) ≡ false
 
     never : (o : Option ℕ) → o ≡ None → o ≡ Some link → ⊥
     never o none some = cc
@@ -70,12 +71,12 @@ module _ (n k : ℕ) where
     answered_once : (r : Reply) (a : Act) → IsFirstAnswer attempts a r → Quiet r a
     answered_once reply.Ok (act.Connect e from m to) first =
         by_name reply.Ok m e (act.Connect e from m to) first
-        (λ h. quiet_act (reads_some (answers n k)) name at ts before seed reply.Ok items puts (act.Connect e from m to) (unnamed ((m == n) && (k == e)) name h, refl)) refl
+        (λ h. quiet_act (reads_some (answers_dial n k)) name at ts before seed reply.Ok items puts (act.Connect e from m to) (unnamed ((m == n) && (k == e)) name h, refl)) refl
     answered_once reply.Ok (act.Refuse e m) first =
-        by_name reply.Ok m e (act.Refuse e m) first (λ h. quiet_act (reads_some (answers n k)) name at ts before seed reply.Ok items puts (act.Refuse e m) (unnamed ((m == n) && (k == e)) name h)) refl
+        by_name reply.Ok m e (act.Refuse e m) first (λ h. quiet_act (reads_some (answers_dial n k)) name at ts before seed reply.Ok items puts (act.Refuse e m) (unnamed ((m == n) && (k == e)) name h)) refl
     answered_once _ (act.Connect e from m to) first = refl
     answered_once _ (act.Refuse e m) first = refl
-    answered_once r a first = untold_act (reads_some (answers n k)) (9 ∷ []) answer_kinds ts before name at seed r items puts a refl
+    answered_once r a first = untold_act (reads_some (answers_dial n k)) (kind.dial_answered ∷ []) answer_kinds ts before name at seed r items puts a refl
 
 -- ---- of each entry
 
@@ -114,7 +115,7 @@ module _ (configs : List Config) (log : List Entry) where
         key = s.key;
         answer = λ link answered.
             s.answer
-            ∙ (last_or-none s.before.answer (answers n k) us
+            ∙ (last_or-none s.before.answer (answers_dial n k) us
             (answered_once n k (attempts_of configs log) s.before link s.is answered (told log) log (length log) ev.at ev.seed (taken log e) e.puts e.reply ev.act (each_first ev.at ev.seed ev.act)) ∙ answered);
       }
     where

@@ -22,18 +22,19 @@ use Rattle.p2p_log_rules.specs.Told.{tells, told}
 use Rattle.p2p_log_rules.specs.Tracked.{asked_by, question_of, grants_peer, asked_tells, served_tells, called_tells, subscriber_tells, tracker_tells}
 use Rattle.p2p_log_rules.proofs.Acted.{tells_as}
 use Rattle.p2p_log_rules.proofs.Bools.{or_false}
-use Rattle.p2p_log_rules.proofs.Families.{kind, has, untold_act}
+use Rattle.p2p_log_rules.proofs.TellingKinds as kind
+use Rattle.p2p_log_rules.proofs.Families.{telling_kind, has, untold_act}
 use Rattle.p2p_log_rules.proofs.Steps.{steps_tracker}
 use Rattle.p2p_log_rules.proofs.Tracked.{NoneTracked, tracker_quiet, subscribers_quiet}
 use Rattle.p2p_log_laws.specs.NodeGrants.{releases_key, tells_grant, tells_release}
 
 module _ (n : ℕ) (key : Key) where
-  grant_kinds : (t : Telling) → has (65 ∷ 66 ∷ []) (kind t) ≡ false → tells_grant n key t ≡ false
+  grant_kinds : (t : Telling) → has (kind.dial_weighed ∷ kind.listen_weighed ∷ []) (telling_kind t) ≡ false → tells_grant n key t ≡ false
   grant_kinds (telling.dial_weighed m at seed k granted) h = cc
   grant_kinds (telling.listen_weighed m at seed k granted) h = cc
   grant_kinds _ h = refl
 
-  release_kinds : (t : Telling) → has (67 ∷ []) (kind t) ≡ false → tells_release n key t ≡ false
+  release_kinds : (t : Telling) → has (kind.release_heard ∷ []) (telling_kind t) ≡ false → tells_release n key t ≡ false
   release_kinds (telling.release_heard m k) h = cc
   release_kinds _ h = refl
 
@@ -77,7 +78,7 @@ module _ (n : ℕ) (key : Key) where
             ∙ tracker_quiet (tells_grant n key) m e.event.at (no_grants_told m e.event.at differ) log e.event.seed e.reply (taken log e) e.puts
         by a is differ =
             ap (list_any (tells_grant n key)) (tells_as (told log) log e a is)
-            ∙ untold_act (tells_grant n key) (65 ∷ 66 ∷ []) grant_kinds (told log) log (length log) e.event.at e.event.seed e.reply (taken log e) e.puts a refl
+            ∙ untold_act (tells_grant n key) (kind.dial_weighed ∷ kind.listen_weighed ∷ []) grant_kinds (told log) log (length log) e.event.at e.event.seed e.reply (taken log e) e.puts a refl
 
     pub frees_elsewhere : steps_tracker n e.event.act ≡ false → list_any (tells_release n key) (tells (told log) log e) ≡ false
     frees_elsewhere = by e.event.act refl
@@ -88,7 +89,7 @@ module _ (n : ℕ) (key : Key) where
             ∙ tracker_quiet (tells_release n key) m e.event.at (no_releases_told m e.event.at differ) log e.event.seed e.reply (taken log e) e.puts
         by a is differ =
             ap (list_any (tells_release n key)) (tells_as (told log) log e a is)
-            ∙ untold_act (tells_release n key) (67 ∷ []) release_kinds (told log) log (length log) e.event.at e.event.seed e.reply (taken log e) e.puts a refl
+            ∙ untold_act (tells_release n key) (kind.release_heard ∷ []) release_kinds (told log) log (length log) e.event.at e.event.seed e.reply (taken log e) e.puts a refl
 
   -- ---- at the node
 

@@ -95,7 +95,7 @@ module _ (configs : List Config) (log : List Entry) (conn n at : ℕ) (P : Queue
       (link : (e : ℕ) (s : Side) (i : Item) → P (queue.Link e s, i)) where
     by_half : (half : Half) → live_half log n conn ≡ Some half → (begun runs : Bool) → Steps (Effect.half_row configs log n conn at half begun runs)
     by_half half lived false runs = inl (refl, (tracker half.peer, (router half.peer, tt)))
-    by_half half lived true false = answered (line log (queue.Ready n conn))
+    by_half half lived true false = answered (line log (queue.RouterAnswer n conn))
     by_half half lived true true = running link half lived (ping_is_due configs log n conn at)
 
     by_sender : (o : Option Half) → live_half log n conn ≡ o → Steps (Effect.sender_row configs log n conn at o)
@@ -121,7 +121,7 @@ module _ (configs : List Config) (log : List Entry) (conn n at : ℕ) (P : Queue
       passed name copy message capacity r s true = delivered (refused_by (is_closed log n message.0) (nat_le capacity (length (line log (queue.Channel n message.0))))) name copy message
       passed name copy message capacity r s false = s
 
-      pinged : (name : ℕ × ℕ) (r : Row) → Steps r → (b : Bool) → Steps (cond b (Effect.pass_row name) r)
+      pinged : (name : ℕ × ℕ) (r : Row) → Steps r → (b : Bool) → Steps (cond b (Effect.taken_row name) r)
       pinged name r s true = inl (refl, tt)
       pinged name r s false = s
 
@@ -227,7 +227,7 @@ module _ (configs : List Config) (log : List Entry) (conn n at : ℕ) where
 
   half_begins : (half : Half) → live_half log n conn ≡ Some half → (begun runs : Bool) → is_begun log n conn ≡ begun → Begins (Effect.half_row configs log n conn at half begun runs)
   half_begins half lived false runs fresh = inl (record { half = half; lived = lived; fresh = fresh; row = refl })
-  half_begins half lived true false begun = silent (takes_oldest (line log (queue.Ready n conn))) (answered configs log conn n at Untold (line log (queue.Ready n conn)))
+  half_begins half lived true false begun = silent (takes_oldest (line log (queue.RouterAnswer n conn))) (answered configs log conn n at Untold (line log (queue.RouterAnswer n conn)))
   half_begins half lived true true begun =
       let due : Bool = ping_is_due configs log n conn at in
       silent (Effect.running_row configs log n conn half due) (running configs log conn n at Untold (λ e s i. refl) half lived due)

@@ -25,7 +25,7 @@ use Rattle.p2p_log.specs.Taken.{AreTaken}
 use Rattle.p2p_log.proofs.Each.{count_by-none}
 use Rattle.p2p_log.proofs.Queues.{same_queue-refl}
 use Rattle.p2p_log_rules.specs.declared.row.Row.{Row}
-use Rattle.p2p_log_rules.specs.Attempting.{left_ends, ready_row}
+use Rattle.p2p_log_rules.specs.Attempting.{left_ends, handed_on_row}
 use Rattle.p2p_log_rules.specs.Dropping.{handshake_step_row}
 use Rattle.p2p_log_rules.specs.Puts.{broke_off}
 use Rattle.p2p_log_rules.specs.Effect.{entry_of}
@@ -161,7 +161,7 @@ module _ (w : Words) (n name : ℕ) (configs : List Config) (log : List Entry) (
         none : (a b c : ℕ) → a ≡ 0 → b ≡ 0 → a + b ≤ c
         none a b c is also = omega (arith, is, also)
 
-    ready : (full : Bool) (key : Key) (link : ℕ) (i : Item) → x.item ≡ i → takes_acceptance (i ∷ []) ≡ false → Answers w n name log ev (ready_row n full key link (name_of x) rest)
+    ready : (full : Bool) (key : Key) (link : ℕ) (i : Item) → x.item ≡ i → takes_acceptance (i ∷ []) ≡ false → Answers w n name log ev (handed_on_row n full key link (name_of x) rest)
     ready true key link i is never = ends ((queue.Tracker n, item.Release key) ∷ []) (ready_silent w n name configs log at seed n true key link (name_of x) rest) i is never
     ready false key link i is never = ends ((queue.Spawner n, item.Spawn key link) ∷ []) (ready_silent w n name configs log at seed n false key link (name_of x) rest) i is never
 

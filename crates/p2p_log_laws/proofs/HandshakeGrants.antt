@@ -16,7 +16,7 @@ use Rattle.p2p_log.specs.Lines.{name_of, live, line}
 use Rattle.p2p_log.specs.Taken.{AreTaken}
 use Rattle.p2p_log.proofs.Queues.{same_queue-refl}
 use Rattle.p2p_log_rules.specs.declared.row.Row.{Row}
-use Rattle.p2p_log_rules.specs.Attempting.{left_ends, ready_row}
+use Rattle.p2p_log_rules.specs.Attempting.{left_ends, handed_on_row}
 use Rattle.p2p_log_rules.specs.Handshakes.{Peer}
 use Rattle.p2p_log_rules.specs.Handshaking.{ended_row, handshake_took_row, handshake_turn}
 use Rattle.p2p_log_rules.specs.Moves.{Moves}
@@ -93,7 +93,7 @@ module _ (n : ℕ) (key : Key) (log : List Entry) (h : ℕ) where
       ends none = ends_with [] (ap one none)
 
       -- with the reservation of this key
-      ready : (full : Bool) (k : Key) (link : ℕ) → grants_key key x.item ≡ (k.0 == key.0) → Hands (ready_row n full k link (name_of x) rest)
+      ready : (full : Bool) (k : Key) (link : ℕ) → grants_key key x.item ≡ (k.0 == key.0) → Hands (handed_on_row n full k link (name_of x) rest)
       ready true k link is =
           let p : Queue × Item = (queue.Tracker n, item.Release k) in
           let put : count_by (puts_release n key) (p ∷ []) ≡ one (k.0 == key.0) =

@@ -31,8 +31,8 @@ use Rattle.p2p_log_rules.specs.Effect.{entry_of, goes_to}
 use Rattle.p2p_log_rules.specs.Facts.{taken}
 use Rattle.p2p_log_rules.specs.Moves.{Moves}
 use Rattle.p2p_log_rules.specs.Reading.{is_read}
-use Rattle.p2p_log_rules.specs.Rows.{only, is_spawner_full}
-use Rattle.p2p_log_rules.specs.Attempting.{left_ends, gone_on_row, ready_row}
+use Rattle.p2p_log_rules.specs.Rows.{only, is_spawner_full, taken_row}
+use Rattle.p2p_log_rules.specs.Attempting.{left_ends, handed_on_row}
 use Rattle.p2p_log_rules.specs.Handshakes.{ends_handshake, is_handshaking, is_finished, Peer, peer_at}
 use Rattle.p2p_log_rules.specs.Handshaking.{handshake_deadline, ended_row, exchanged_row, handshake_took_row, is_due, handshake_turn, handshake_row}
 use Rattle.p2p_log_laws.proofs.Gone.{all_go}
@@ -93,7 +93,7 @@ module _ (configs : List Config) (log : List Entry) (e n : ℕ) where
     whole = λ over. absurd (false≢true (sym goes_on ∙ over));
   }
 
-  taken_step : (x : Envelope) (rest : List Envelope) → line log q ≡ x ∷ rest → ends_handshake reply.Ok (x.item ∷ []) ≡ false → Stepped (x ∷ rest) (gone_on_row (name_of x))
+  taken_step : (x : Envelope) (rest : List Envelope) → line log q ≡ x ∷ rest → ends_handshake reply.Ok (x.item ∷ []) ≡ false → Stepped (x ∷ rest) (taken_row (name_of x))
   taken_step x rest first goes_on = asking_step x rest first goes_on [] tt tt
 
   -- as where it asks for its peer
@@ -101,7 +101,7 @@ module _ (configs : List Config) (log : List Entry) (e n : ℕ) where
   exchanged_step x rest first goes_on key = asking_step x rest first goes_on ((queue.Tracker n, item.AskListen e key) ∷ []) ((refl, refl), tt) (asks, tt)
 
   -- its peer is reserved
-  ready_step : (full : Bool) (key : Key) (link : ℕ) (x : Envelope) (rest : List Envelope) → line log q ≡ x ∷ rest → Stepped (x ∷ rest) (ready_row n full key link (name_of x) rest)
+  ready_step : (full : Bool) (key : Key) (link : ℕ) (x : Envelope) (rest : List Envelope) → line log q ≡ x ∷ rest → Stepped (x ∷ rest) (handed_on_row n full key link (name_of x) rest)
   ready_step true key link x rest first = left_step x rest first ((queue.Tracker n, item.Release key) ∷ []) ((refl, refl), tt) (asks, tt)
   ready_step false key link x rest first = left_step x rest first ((queue.Spawner n, item.Spawn key link) ∷ []) ((refl, refl), tt) (spawns, tt)
 

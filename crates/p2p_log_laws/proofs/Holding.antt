@@ -82,7 +82,7 @@ module _ (configs : List Config) (log : List Entry) (n conn : ℕ) where
     message_alone x copy (Some message) =
         known_alone x copy message (capacity_in (channels configs log m) message.0) (may_pass configs log m e at (messages message.0))
 
-    quota_alone : (name : ℕ × ℕ) (passes : Bool) → Alone (cond passes (Effect.pass_row name) (Effect.hold_row m e name item.Ping))
+    quota_alone : (name : ℕ × ℕ) (passes : Bool) → Alone (cond passes (Effect.taken_row name) (Effect.hold_row m e name item.Ping))
     quota_alone name true = inl tt
     quota_alone name false = one_alone (queue.Held m e) item.Ping
 
@@ -104,7 +104,7 @@ module _ (configs : List Config) (log : List Entry) (n conn : ℕ) where
     again_alone name copy message (Some capacity) true = deliver_alone name copy message capacity
     again_alone name copy message (Some capacity) false = inl tt
 
-    passed_alone : (name : ℕ × ℕ) (passes : Bool) → Alone (cond passes (Effect.pass_row name) (Effect.only reply.Idle))
+    passed_alone : (name : ℕ × ℕ) (passes : Bool) → Alone (cond passes (Effect.taken_row name) (Effect.only reply.Idle))
     passed_alone name true = inl tt
     passed_alone name false = inl tt
 

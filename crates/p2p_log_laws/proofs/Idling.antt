@@ -1,11 +1,12 @@
--- A step of an actor is idle exactly where none of its inputs is ready.
+-- A step of an actor is what that makes of its first input, and idle exactly where none is ready.
 use Rattle.std.proofs.Common.{◌≡◌, ℕ, zero, suc, Bool, true, false, cond, List, [], ◌∷◌, ◌++◌, take, length, refl, ap, sym, subst, ◌∙◌, Option, Some, None}
-use Rattle.std.specs.Prelude.{◌&&◌, ◌-◌, not, nat_le, nat_lt, is_none, slice_get, filter}
+use Rattle.std.specs.Prelude.{◌&&◌, ◌-◌, not, nat_le, nat_lt, is_none, slice_get, filter, map}
 use Rattle.std.specs.List.{AllByRecursion as Each}
 use Rattle.p2p_log.specs.declared.config.Config.{Config}
 use Rattle.p2p_log.specs.declared.queue.Queue.{Queue}
 use Rattle.p2p_log.specs.declared.queue.Queue.TheVariants as queue
 use Rattle.p2p_log.specs.declared.queue.Side.{Side}
+use Rattle.p2p_log.specs.declared.queue.Side.TheVariants as side
 use Rattle.p2p_log.specs.declared.item.Item.{Item}
 use Rattle.p2p_log.specs.declared.item.Item.TheVariants as item
 use Rattle.p2p_log.specs.declared.item.Envelope.{Envelope}
@@ -20,12 +21,12 @@ use Rattle.p2p_log.specs.Lines.{name_of, line, live, stays}
 use Rattle.p2p_log_rules.specs.declared.row.Half.{Half}
 use Rattle.p2p_log_rules.specs.declared.row.Row.{Row}
 use Rattle.p2p_base.specs.declared.key.Key.{Key}
-use Rattle.p2p_log_rules.specs.Attempting.{Attempt, dial_rules_at, attempts_of, resolved, resolved_row, ready_row, link_of, attempt_took_row}
+use Rattle.p2p_log_rules.specs.Attempting.{Attempt, dial_rules_at, attempts_of, resolved, resolved_row, handed_on_row, link_of, attempt_took_row}
 use Rattle.p2p_log_rules.specs.Closing.{is_closed, refused_by}
 use Rattle.p2p_log_rules.specs.Connections.{live_half, is_begun, is_running}
 use Rattle.p2p_log_rules.specs.Dialing.{Dials, dials_of, due_row, answer_taken_row}
 use Rattle.p2p_log_rules.specs.Cutting.{is_broken}
-use Rattle.p2p_log_rules.specs.Dropping.{other_side}
+use Rattle.p2p_log_rules.specs.Dropping.{other_side, dialing_end, arriving_end, attempt_drops, handshake_drops, listener_drops}
 use Rattle.p2p_log_rules.specs.Effect.{effect, entry_of, row, route_row, batch_size_at, batch, written_row, deliver_row, delivered_row, message_row, ping_row, frame_row, retry_row, limit_at}
 use Rattle.p2p_log_rules.specs.Effect as effects
 use Rattle.p2p_log_rules.specs.Facts.{is_up, channels, capacity_in}
@@ -38,12 +39,13 @@ use Rattle.p2p_log_rules.specs.Lawful.{IsLawful}
 use Rattle.p2p_log_rules.specs.Listening.{gate_rules_at, known_of, has_place, arrived_row}
 use Rattle.p2p_log_rules.specs.Metering.{pings, messages, may_pass}
 use Rattle.p2p_log_rules.specs.Pings.{ping_is_due}
+use Rattle.p2p_log_rules.specs.Puts.{gave_up, broke_off, turns_away}
 use Rattle.p2p_log_rules.specs.Rows.{only, is_spawner_full}
 use Rattle.p2p_log_rules.specs.Serving.{tracker_serves, router_serves, spawner_serves, dialer_serves, listener_serves, attempt_serves, handshake_serves, sender_serves, receiver_serves, serves, actor_row}
 use Rattle.p2p_log_rules.specs.TrackerPuts.{is_some_of}
 use Rattle.p2p_log_rules.specs.Tracking.{key_cmp, rules_at, calls_of}
 use Rattle.p2p_tracker_calls.specs.BlockedKeys.{due_keys}
-use Rattle.p2p_log_rules.proofs.First.{row_reply-first}
+use Rattle.p2p_log_rules.proofs.First.{dropping-reply, row-first}
 use Rattle.p2p_log_rules.proofs.Moves.{one_taken, first_has}
 use Rattle.p2p_log_laws.specs.Idling.{is_gone, is_idle, ServesFirst, EachStepServesFirst}
 use Rattle.p2p_log_laws.proofs.Fitting.{fits, StandsFit}
@@ -60,6 +62,11 @@ is_still _ = false
 abbrev Serves : (Input → Row) → Option Input → Type 0
 Serves serve None = Unit {0}
 Serves serve (Some i) = is_still (serve i).reply ≡ false
+
+-- and that it lets go of an end of a link then is no other reply
+drops_serves : (drops : Row → Row) → ((r : Row) → (drops r).reply ≡ r.reply) → (serve : Input → Row) (o : Option Input) → Serves serve o → Serves (λ i. drops (serve i)) o
+drops_serves drops same serve None served = tt
+drops_serves drops same serve (Some i) served = ap is_still (same (serve i)) ∙ served
 
 -- ---- what each kind of row replies
 
@@ -85,7 +92,7 @@ arrived_serves : (configs : List Config) (log : List Entry) (n at : ℕ) (name :
 arrived_serves configs log n at name (item.Arrival from key link) fit = refl
 arrived_serves configs log n at name _ fit = absurd (cc)
 
-ready_serves : (n : ℕ) (full : Bool) (key : Key) (link : ℕ) (name : ℕ × ℕ) (left : List Envelope) → is_still (ready_row n full key link name left).reply ≡ false
+ready_serves : (n : ℕ) (full : Bool) (key : Key) (link : ℕ) (name : ℕ × ℕ) (left : List Envelope) → is_still (handed_on_row n full key link name left).reply ≡ false
 ready_serves n true key link name left = refl
 ready_serves n false key link name left = refl
 
@@ -150,7 +157,7 @@ module _ (configs : List Config) (log : List Entry) (n conn : ℕ) (half : Half)
     ping_serves x false = refl
     ping_serves x true = by (may_pass configs log n conn at pings)
       where
-        by : (b : Bool) → is_still (cond b (effects.pass_row (name_of x)) (effects.hold_row n conn (name_of x) item.Ping)).reply ≡ false
+        by : (b : Bool) → is_still (cond b (effects.taken_row (name_of x)) (effects.hold_row n conn (name_of x) item.Ping)).reply ≡ false
         by true = refl
         by false = refl
 
@@ -170,7 +177,7 @@ module _ (configs : List Config) (log : List Entry) (n conn : ℕ) (half : Half)
         by None b h = absurd (cc)
         by (Some capacity) true h = deliver_serves name copy (c, bytes) capacity
         by (Some capacity) false h = absurd (cc)
-    held_serves name item.Ping h = ap (λ b. is_still (cond b (effects.pass_row name) (only reply.Idle)).reply) h
+    held_serves name item.Ping h = ap (λ b. is_still (cond b (effects.taken_row name) (only reply.Idle)).reply) h
     held_serves name _ h = absurd (cc)
 
 -- ---- each actor
@@ -190,12 +197,12 @@ module _ (configs : List Config) (log : List Entry) (fitting : Each StandsFit (l
       ∷ oldest_of (queue.High n conn) (line log (queue.High n conn))
       ∷ oldest_of (queue.Low n conn) (line log (queue.Low n conn))
       ∷ []))
-      (oldest_of (queue.Ready n conn) (line log (queue.Ready n conn)) ∷ []))
+      (oldest_of (queue.RouterAnswer n conn) (line log (queue.RouterAnswer n conn)) ∷ []))
       (Some begins ∷ [])))
   sender_first n conn half false running = refl
-  sender_first n conn half true false = by (line log (queue.Ready n conn))
+  sender_first n conn half true false = by (line log (queue.RouterAnswer n conn))
     where
-      by : (xs : List Envelope) → Serves (sender_serves configs log n conn (Some half)) (first_of (oldest_of (queue.Ready n conn) xs ∷ []))
+      by : (xs : List Envelope) → Serves (sender_serves configs log n conn (Some half)) (first_of (oldest_of (queue.RouterAnswer n conn) xs ∷ []))
       by [] = tt
       by (x ∷ xs) = refl
   sender_first n conn half true true =
@@ -265,14 +272,19 @@ module _ (configs : List Config) (log : List Entry) (fitting : Each StandsFit (l
       by (x ∷ xs) is b = answered_serves n seed (dials_of configs log n) (name_of x) x.item (oldest_fits (queue.Dialer n) x xs is)
       by [] is true = due_serves n (dials_of configs log n).peers
       by [] is false = tt
-  serves_first (listener n) runs = by (line log (queue.Update n)) (line log (queue.Arrivals n)) refl
+  serves_first (listener n) runs =
+      drops_serves (listener_drops log n) (λ r. dropping-reply log (cond (turns_away r.reply) (arriving_end log n) None) r) (listener_serves configs log n at) (first_input configs log at (listener n))
+      (by (line log (queue.Addresses n)) (line log (queue.Arrivals n)) refl)
     where
       by : (us xs : List Envelope) → line log (queue.Arrivals n) ≡ xs
-          → Serves (listener_serves configs log n at) (first_of (oldest_of (queue.Update n) us ∷ oldest_of (queue.Arrivals n) xs ∷ []))
+          → Serves (listener_serves configs log n at) (first_of (oldest_of (queue.Addresses n) us ∷ oldest_of (queue.Arrivals n) xs ∷ []))
       by (u ∷ us) xs is = refl
       by [] [] is = tt
       by [] (x ∷ xs) is = arrived_serves configs log n at (name_of x) x.item (oldest_fits (queue.Arrivals n) x xs is)
-  serves_first (attempt n k) runs = by (attempts_of configs log n k) runs (line log (queue.Attempt n k))
+  serves_first (attempt n k) runs =
+      drops_serves (attempt_drops log k n) (λ r. dropping-reply log (cond (gave_up r.puts) (dialing_end log n k) None) r)
+      (attempt_serves n (is_spawner_full configs log n) (dial_rules_at configs n).private seed (attempts_of configs log n k)) (first_input configs log at (attempt n k))
+      (by (attempts_of configs log n k) runs (line log (queue.Attempt n k)))
     where
       turn : (a : Attempt) (b : Bool)
           → Serves (attempt_serves n (is_spawner_full configs log n) (dial_rules_at configs n).private seed (Some a)) (first_of (ready b due ∷ []))
@@ -284,7 +296,11 @@ module _ (configs : List Config) (log : List Entry) (fitting : Each StandsFit (l
       by None runs xs = absurd (cc)
       by (Some a) runs [] = turn a (nat_le a.deadline at)
       by (Some a) runs (x ∷ xs) = tried_serves n (is_spawner_full configs log n) (dial_rules_at configs n).private seed a (name_of x) x.item xs
-  serves_first (handshake n h) runs = by (line log (queue.Handshake n h)) (is_due (handshake_deadline configs log h n) at (is_finished log n h))
+  serves_first (handshake n h) runs =
+      drops_serves (handshake_drops log (peer_at log h).link (line log (queue.Handshake n h)))
+      (λ r. dropping-reply log (cond (broke_off r.reply (map (λ x. x.item) (take 1 (line log (queue.Handshake n h)))) r.puts) (Some ((peer_at log h).link, side.In)) None) r)
+      (handshake_serves n (is_spawner_full configs log n) h (peer_at log h)) (first_input configs log at (handshake n h))
+      (by (line log (queue.Handshake n h)) (is_due (handshake_deadline configs log h n) at (is_finished log n h)))
     where
       by : (xs : List Envelope) (b : Bool)
           → Serves (handshake_serves n (is_spawner_full configs log n) h (peer_at log h)) (first_of (oldest_of (queue.Handshake n h) xs ∷ ready b due ∷ []))
@@ -328,9 +344,10 @@ each_step_serves_first configs script log lawful n e a there is =
     let ev : Event = found.0 in
     subst (λ (d : Entry). ServesFirst configs before d a) (sym found.1)
     (let acting : actor_of ev.act ≡ Some a = ap (λ (d : Entry). actor_of d.event.act) (sym found.1) ∙ is in
-    let same : (row configs before ev.at ev.seed ev.act).reply ≡ (actor_row configs before ev.at ev.seed a).reply = row_reply-first configs before ev.at ev.seed ev.act a acting in
+    let made : row configs before ev.at ev.seed ev.act ≡ actor_row configs before ev.at ev.seed a = row-first configs before ev.at ev.seed ev.act a acting in
+    let same : (row configs before ev.at ev.seed ev.act).reply ≡ (actor_row configs before ev.at ev.seed a).reply = ap (λ (r : Row). r.reply) made in
     let both =
     by_first (acts configs before a) (serves configs before ev.at ev.seed a) (first_input configs before ev.at a)
     (serves_first configs before (Told-each configs script log lawful n).standing.fitting ev.at ev.seed a)
     in
-    record { gone = ap is_gone same ∙ both.0; idle = ap is_idle same ∙ both.1 })
+    record { made = ap (entry_of ev) made; gone = ap is_gone same ∙ both.0; idle = ap is_idle same ∙ both.1 })

@@ -82,10 +82,10 @@ module _ (n : ℕ) (Killed : ℕ → Type 0) where
   kinds_kill : EachKindBy n Kills Killed
   kinds_kill = record {
     kill = λ conn why m c is. (sym (ap (λ (y : Put). node_of y.0) is), subst Killed (ap (λ (y : Put). connection_of y.0) is) why);
-    update = λ e u. other_kills (queue.Updates n e, item.Update u) refl;
+    update = λ e u. other_kills (queue.PeerSetUpdates n e, item.PeerSetUpdate u) refl;
     blocked = λ e keys. other_kills (queue.Blocked n e, item.Blocked keys) refl;
-    heard = λ ips. other_kills (queue.Update n, item.Addresses ips) refl;
-    answer = λ e o. other_kills (queue.Answer n e, item.PeerSet o) refl;
+    heard = λ ips. other_kills (queue.Addresses n, item.Addresses ips) refl;
+    answer = λ e o. other_kills (queue.PeerSet n e, item.PeerSet o) refl;
   }
 
 module _ (configs : List Config) (log : List Entry) (n at : ℕ) where

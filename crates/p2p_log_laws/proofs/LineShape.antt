@@ -19,9 +19,9 @@ use Rattle.p2p_log.proofs.QueueNames.{Each-in_queue}
 use Rattle.p2p_log.proofs.Taken.{line_taken}
 use Rattle.p2p_log_rules.specs.declared.row.Row.{Row}
 use Rattle.p2p_log_rules.specs.Moves.{Moves}
-use Rattle.p2p_log_rules.specs.Attempting.{left_ends, gone_on_row}
+use Rattle.p2p_log_rules.specs.Attempting.{left_ends}
 use Rattle.p2p_log_rules.specs.Reading.{is_read}
-use Rattle.p2p_log_rules.specs.Rows.{only}
+use Rattle.p2p_log_rules.specs.Rows.{only, taken_row}
 use Rattle.p2p_log_laws.proofs.Reaching.{reads, writes, ends_in}
 use Rattle.p2p_log_laws.proofs.Fitting.{StandsFit, fits, is_bare, holds_bare, is_item_end, bare_there}
 use Rattle.p2p_log_laws.proofs.Shape.{Shape, IsQuiet, quiet_laws, one_move, no_moves, first_in}
@@ -156,5 +156,5 @@ module _ (configs : List Config) (log : List Entry) (a : Act) (q : Queue) (read 
   asking_shape x rest first puts quiet near = (asking_within x rest first puts quiet near).shape
 
   -- it takes this, and goes on
-  pub gone_on_shape : (x : Envelope) (rest : List Envelope) → line log q ≡ x ∷ rest → Shape configs log a (gone_on_row (name_of x))
+  pub gone_on_shape : (x : Envelope) (rest : List Envelope) → line log q ≡ x ∷ rest → Shape configs log a (taken_row (name_of x))
   gone_on_shape x rest first = asking_shape x rest first [] tt tt

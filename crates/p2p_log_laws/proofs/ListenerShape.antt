@@ -63,7 +63,7 @@ module _ (configs : List Config) (log : List Entry) (m : ℕ) where
   off_arrivals over side.Out = refl
   off_arrivals over side.In = refl
 
-  off_update : (over : ℕ) (s : Side) → same_queue (queue.Link over s) (queue.Update m) ≡ false
+  off_update : (over : ℕ) (s : Side) → same_queue (queue.Link over s) (queue.Addresses m) ≡ false
   off_update over side.Out = refl
   off_update over side.In = refl
 
@@ -122,11 +122,11 @@ module _ (configs : List Config) (log : List Entry) (m : ℕ) where
   plain_gates name k gates.Admitted n key = (plain_item n key (queue.Tracker m) (item.AskAcceptable name k) refl refl, tt)
   plain_gates name k _ n key = tt
 
-  update_read : reads configs log (act.Listener m) (queue.Update m) ≡ true
-  update_read = ap (λ b. b || same_queue (queue.Arrivals m) (queue.Update m)) (same_queue-refl (queue.Update m))
+  update_read : reads configs log (act.Listener m) (queue.Addresses m) ≡ true
+  update_read = ap (λ b. b || same_queue (queue.Arrivals m) (queue.Addresses m)) (same_queue-refl (queue.Addresses m))
 
   arrivals_read : reads configs log (act.Listener m) (queue.Arrivals m) ≡ true
-  arrivals_read = ap (λ b. same_queue (queue.Update m) (queue.Arrivals m) || b) (same_queue-refl (queue.Arrivals m))
+  arrivals_read = ap (λ b. same_queue (queue.Addresses m) (queue.Arrivals m) || b) (same_queue-refl (queue.Arrivals m))
 
   arrived_aside : (known : Known) (place : Bool) (at : ℕ) (x : Envelope) (rest : List Envelope) → line log (queue.Arrivals m) ≡ x ∷ rest → (i : Item)
       → Aside configs log m (arrived_row (gate_rules_at configs m) known place m (length log) at (name_of x) i)
@@ -140,17 +140,17 @@ module _ (configs : List Config) (log : List Entry) (m : ℕ) where
   arrival_aside known place at [] none = idle_aside reply.Idle refl refl
   arrival_aside known place at (x ∷ rest) first = arrived_aside known place at x rest first x.item
 
-  turn_aside : (known : Known) (place : Bool) (at : ℕ) (us : List Envelope) → line log (queue.Update m) ≡ us
+  turn_aside : (known : Known) (place : Bool) (at : ℕ) (us : List Envelope) → line log (queue.Addresses m) ≡ us
       → Aside configs log m (listener_turn (gate_rules_at configs m) known place m (length log) at us (line log (queue.Arrivals m)))
   turn_aside known place at [] none = arrival_aside known place at (line log (queue.Arrivals m)) refl
-  turn_aside known place at (x ∷ rest) first = taken_aside (queue.Update m) off_update x rest first update_read refl (λ n. (refl, refl)) reply.Ok refl refl [] tt tt (λ n key. tt)
+  turn_aside known place at (x ∷ rest) first = taken_aside (queue.Addresses m) off_update x rest first update_read refl (λ n. (refl, refl)) reply.Ok refl refl [] tt tt (λ n key. tt)
 
   pub listener_aside : (at : ℕ) → Aside configs log m (listener_row configs log m at)
   listener_aside at = by_up (is_up log m)
     where
       by_up : (b : Bool) → Aside configs log m
-          (cond b (listener_turn (gate_rules_at configs m) (known_of configs log m) (has_place configs log m) m (length log) at (line log (queue.Update m)) (line log (queue.Arrivals m))) (only reply.Gone))
-      by_up true = turn_aside (known_of configs log m) (has_place configs log m) at (line log (queue.Update m)) refl
+          (cond b (listener_turn (gate_rules_at configs m) (known_of configs log m) (has_place configs log m) m (length log) at (line log (queue.Addresses m)) (line log (queue.Arrivals m))) (only reply.Gone))
+      by_up true = turn_aside (known_of configs log m) (has_place configs log m) at (line log (queue.Addresses m)) refl
       by_up false = idle_aside reply.Gone refl refl
 
   -- the end of an arrival that it turns away is dropped

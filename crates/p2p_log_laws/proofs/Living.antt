@@ -21,7 +21,7 @@ use Rattle.p2p_log.specs.Lines.{name_of, live, line}
 use Rattle.p2p_log_rules.specs.declared.row.Half.{Half}
 use Rattle.p2p_log_rules.specs.declared.row.Row.{Row}
 use Rattle.p2p_log_rules.specs.Closing.{is_closed, refused_by}
-use Rattle.p2p_log_rules.specs.Connections.{is_done, is_end, is_answer, begins, runs, ends_connection, live_half, is_begun, has_run, is_running, is_ended}
+use Rattle.p2p_log_rules.specs.Connections.{is_done, is_end, is_answer, begins_connection, runs, ends_connection, live_half, is_begun, has_run, is_running, is_ended}
 use Rattle.p2p_log_rules.specs.Cutting.{is_broken}
 use Rattle.p2p_log_rules.specs.Dropping.{other_side}
 use Rattle.p2p_log_rules.specs.Effect
@@ -116,8 +116,8 @@ module _ (configs : List Config) (log : List Entry) (n conn at : ℕ) (fitting :
         delivered_ends (refused_by (is_closed log n message.0) (nat_le capacity (length (line log (queue.Channel n message.0))))) name copy message
     passed_ends name copy message capacity other h false = h
 
-    pinged_ends : (name : ℕ × ℕ) (other : Row) → Ends other → (b : Bool) → Ends (cond b (Effect.pass_row name) other)
-    pinged_ends name other h true = never (Effect.pass_row name) refl
+    pinged_ends : (name : ℕ × ℕ) (other : Row) → Ends other → (b : Bool) → Ends (cond b (Effect.taken_row name) other)
+    pinged_ends name other h true = never (Effect.taken_row name) refl
     pinged_ends name other h false = h
 
     -- the first frame in flight
@@ -193,7 +193,7 @@ module _ (configs : List Config) (log : List Entry) (n conn at : ℕ) (fitting :
 
   half_ends : (half : Half) → live_half log n conn ≡ Some half → (begun running : Bool) → is_running log n conn ≡ running → Ends (Effect.half_row configs log n conn at half begun running)
   half_ends half lived false running ran = λ h. absurd (false≢true h)
-  half_ends half lived true false ran = answered_ends (line log (queue.Ready n conn))
+  half_ends half lived true false ran = answered_ends (line log (queue.RouterAnswer n conn))
   half_ends half lived true true ran = running_ends half lived ran (ping_is_due configs log n conn at)
 
   sender_ends : (o : Option Half) → live_half log n conn ≡ o → Ends (Effect.sender_row configs log n conn at o)
@@ -293,12 +293,12 @@ module _ (configs : List Config) (log : List Entry) (ev : Event) (n conn : ℕ) 
     | inr over ↦ (over.connection, over.made)
   ]
 
-  begins_made : begins n conn log (effect configs log ev) ≡ true → IsMade log n conn
+  begins_made : begins_connection n conn log (effect configs log ev) ≡ true → IsMade log n conn
   unfolding effect
   begins_made h = let begin = begin_of log (effect configs log ev) n conn h in steps_made true begin.0 (λ gone. false≢true (ap (λ (k : Row). is_done k.reply) (sym gone) ∙ begin.1))
 
   runs_made : runs n conn log (effect configs log ev) ≡ true → IsMade log n conn
-  runs_made h = begins_made (and_parts (begins n conn log (effect configs log ev)) (list_any is_answer (taken log (effect configs log ev))) (sym (runs_is log (effect configs log ev) n conn) ∙ h)).0
+  runs_made h = begins_made (and_parts (begins_connection n conn log (effect configs log ev)) (list_any is_answer (taken log (effect configs log ev))) (sym (runs_is log (effect configs log ev) n conn) ∙ h)).0
 
 module _ (configs : List Config) (script : List Event) (log : List Entry) (lawful : IsLawful configs script log) where
   abbrev Makes : (List Entry → ℕ → ℕ → Bool) → List Entry → Type 0
@@ -326,7 +326,7 @@ module _ (configs : List Config) (script : List Event) (log : List Entry) (lawfu
     where
       more : (before : List Entry) (ev : Event) → Makes is_begun before → Makes is_begun (before ++ effect configs before ev ∷ [])
       more before ev old n conn h =
-          next_made configs before ev n conn (is_begun before n conn) (begins n conn before (effect configs before ev)) (old n conn) (begins_made configs before ev n conn)
+          next_made configs before ev n conn (is_begun before n conn) (begins_connection n conn before (effect configs before ev)) (old n conn) (begins_made configs before ev n conn)
           (sym (is_begun-append before (effect configs before ev) n conn) ∙ h)
 
   pub run_made : (n conn : ℕ) → has_run log n conn ≡ true → IsMade log n conn

@@ -32,6 +32,7 @@ use Rattle.p2p_log_rules.specs.Told.{asks_list, took_tells, tells, told}
 use Rattle.p2p_log_rules.specs.Tracked.{called_tells}
 use Rattle.p2p_log_rules.proofs.Attempts.{attempt_told, attempts_by, attempts_of-append}
 use Rattle.p2p_log_rules.proofs.AttemptTellings.{attempts_of-act, tries, none_tried, attempts_of-others, attempts_of-kept, attempts_of-new, attempts_of-old, attempts_of-stepped}
+use Rattle.p2p_log_rules.proofs.TellingKinds as kind
 use Rattle.p2p_log_rules.proofs.Families.{kinds_of, are_apart}
 use Rattle.p2p_log_rules.specs.Dialing.{dialer_row}
 use Rattle.p2p_log_rules.specs.declared.row.Opening.{Opening}
@@ -131,7 +132,7 @@ module _ (configs : List Config) (n : ℕ) (key : Key) (log : List Entry) where
         ap (is_attempt_of key) (sym (attempts_of-append configs log e n k) ∙ attempts_of-kept configs log e n k h)
 
     -- one that neither begins nor ends any
-    only_told : (a : Act) (r : Row) → are_apart (kinds_of a) (7 ∷ 13 ∷ []) ≡ true → (k : ℕ) → is_attempt_of key (attempts_by configs n log (entry_of (event at seed a) r) f k) ≡ is_attempt_of key (f k)
+    only_told : (a : Act) (r : Row) → are_apart (kinds_of a) (kind.attempt_begun ∷ kind.attempt_ended ∷ []) ≡ true → (k : ℕ) → is_attempt_of key (attempts_by configs n log (entry_of (event at seed a) r) f k) ≡ is_attempt_of key (f k)
     only_told a r apart k = bounded_holds (dial_rules_at configs n) n k key log (entry_of (event at seed a) r) (f k) apart
 
     sender_weighs : (conn m : ℕ) → Weighs (event at seed (act.SendStep conn m)) (send_step_row configs log conn m at)

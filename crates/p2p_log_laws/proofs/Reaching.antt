@@ -41,7 +41,7 @@ in_connection o n conn (queue.High m e) = (m == n) && (e == conn)
 in_connection o n conn (queue.Low m e) = (m == n) && (e == conn)
 in_connection o n conn (queue.Held m e) = (m == n) && (e == conn)
 in_connection o n conn (queue.Control m e) = (m == n) && (e == conn)
-in_connection o n conn (queue.Ready m e) = (m == n) && (e == conn)
+in_connection o n conn (queue.RouterAnswer m e) = (m == n) && (e == conn)
 in_connection o n conn q = in_flight (half_end o) q
 
 -- the queues from which an act takes, after these entries

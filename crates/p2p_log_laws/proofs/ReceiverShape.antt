@@ -97,7 +97,7 @@ module _ (configs : List Config) (log : List Entry) (conn n moment : ℕ) where
           laws = λ fitting. quiet_laws configs log step r (one_move log q x rest first r refl refl) refl refl (light, tt) tt tt quiet;
         }
 
-    passed_shape : is_bare x.item ≡ true → Shape configs log step (Effect.pass_row (name_of x))
+    passed_shape : is_bare x.item ≡ true → Shape configs log step (Effect.taken_row (name_of x))
     passed_shape light = light_shape [] light tt tt
 
     ping_held_shape : is_bare x.item ≡ true → Shape configs log step (Effect.hold_row n conn (name_of x) item.Ping)
@@ -187,7 +187,7 @@ module _ (configs : List Config) (log : List Entry) (conn n moment : ℕ) where
         (held_arrives c bytes copy is) capacity known
     again_shape c bytes copy (Some capacity) false is known = idle_shape
 
-    ping_again_shape : (passes : Bool) → x.item ≡ item.Ping → Shape configs log step (cond passes (Effect.pass_row (name_of x)) (Effect.only reply.Idle))
+    ping_again_shape : (passes : Bool) → x.item ≡ item.Ping → Shape configs log step (cond passes (Effect.taken_row (name_of x)) (Effect.only reply.Idle))
     ping_again_shape true is = passed_shape half at (queue.Held n conn) x rest first reads_held (ap is_bare is)
     ping_again_shape false is = idle_shape
 
@@ -322,7 +322,7 @@ module _ (configs : List Config) (log : List Entry) (conn n moment : ℕ) where
     message_shape copy frame (Some message) is read =
         known_shape copy frame message (capacity_in (channels configs log n) message.0) (may_pass configs log n conn moment (messages message.0)) is read refl
 
-    quota_shape : (passes : Bool) → is_bare x.item ≡ true → Shape configs log step (cond passes (Effect.pass_row (name_of x)) (Effect.hold_row n conn (name_of x) item.Ping))
+    quota_shape : (passes : Bool) → is_bare x.item ≡ true → Shape configs log step (cond passes (Effect.taken_row (name_of x)) (Effect.hold_row n conn (name_of x) item.Ping))
     quota_shape true light = passed_shape half lives way x rest first (reads_link half lives) light
     quota_shape false light = ping_held_shape half lives way x rest first (reads_link half lives) light
 

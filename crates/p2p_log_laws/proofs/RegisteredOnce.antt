@@ -1,7 +1,8 @@
--- In a valid script no channel is registered twice at a node.
+-- In a valid script no channel is registered twice at a node, and none once that has started.
 use Rattle.std.proofs.Common.{◌≡◌, ℕ, ◌+◌, ◌≤◌, Bool, true, false, cond, List, [], ◌∷◌, ◌++◌, length, map, take, drop, Option, Some, None, refl, ap, sym, subst, ◌∙◌, arith, append_assoc, append-nil, take-append-drop, eqb-true}
-use Rattle.std.specs.Prelude.{◌==◌, ◌&&◌, not, flat_map, count_by, is_some, nat_le, nat_lt, slice_get}
+use Rattle.std.specs.Prelude.{◌==◌, ◌&&◌, ◌||◌, not, flat_map, count_by, is_some, nat_le, nat_lt, slice_get}
 use Rattle.std.proofs.lemmas.List.{map-append}
+use Rattle.std.specs.List.{list_any}
 use Rattle.std.specs.Map.{lookup}
 use Rattle.std.proofs.lemmas.Bool.{and_parts, false≢true}
 use Rattle.std.proofs.lemmas.Grind.{flat_map-append}
@@ -11,10 +12,10 @@ use Rattle.p2p_log.specs.declared.entry.Entry.{Entry}
 use Rattle.p2p_log.specs.declared.event.Act.{Act}
 use Rattle.p2p_log.specs.declared.event.Act.TheVariants as act
 use Rattle.p2p_log.specs.declared.event.Event.{Event}
-use Rattle.p2p_log_rules.specs.Facts.{events_of, capacity_for, with_capacity, registers_at, registered, capacity_in, has_started, sum_capacities, latest_moment}
+use Rattle.p2p_log_rules.specs.Facts.{events_of, capacity_for, with_capacity, registers_at, registered, capacity_in, has_started, starts, sum_capacities, latest_moment}
 use Rattle.p2p_log_rules.specs.Effect.{mailbox_size_at}
 use Rattle.p2p_log_rules.specs.Valid.{fits_usize, is_quota, may_register, may_act, is_valid_event, event_fault_from}
-use Rattle.p2p_log_laws.specs.Subscribing.{registered_by, registrations, EachRegistersOnce}
+use Rattle.p2p_log_laws.specs.Subscribing.{registered_by, registrations, EachRegistersOnce, EachStartSettles}
 
 count_none : {X Y : Type 0} (p : X → Bool) (es : List (X × Y)) → is_some (lookup p es) ≡ false → count_by p (map (λ e. e.0) es) ≡ 0
 count_none p [] h = refl
@@ -130,6 +131,75 @@ module _ (configs : List Config) (n : ℕ) where
     where
       less : (a b all : ℕ) → all ≡ a + b → all ≤ 1 → a ≤ 1
       less a b all sum le = omega (arith, sum, le)
+
+-- ---- and none once it has started
+
+module _ (configs : List Config) (n : ℕ) where
+  started_more : (before more : List Event) → has_started before n ≡ true → has_started (before ++ more) n ≡ true
+  unfolding has_started
+  started_more [] more h = absurd (false≢true h)
+  started_more (v ∷ vs) more h = by (starts n v.act) h (started_more vs more)
+    where
+      by : (b : Bool) → (b || list_any (λ w. starts n w.act) vs) ≡ true
+          → (list_any (λ w. starts n w.act) vs ≡ true → list_any (λ w. starts n w.act) (vs ++ more) ≡ true) → (b || list_any (λ w. starts n w.act) (vs ++ more)) ≡ true
+      by true h later = refl
+      by false h later = later h
+
+  none_by : (before : List Event) (a : Act) → has_started before n ≡ true → may_act configs before a ≡ true → registered_by n a ≡ []
+  none_by before (act.Register d m rate) started may = by (m == n) refl
+    where
+      unstarted : not (has_started before m) ≡ true
+      unstarted =
+          let registers = and_parts (nat_lt m (length configs)) (may_register configs before d m rate) may in
+          let fresh =
+          and_parts ((not (has_started before m) && not (is_some (capacity_in (registered configs before m) d))) && is_quota rate)
+          (fits_usize (capacity_for (slice_get configs m) rate) && fits_usize (mailbox_size_at configs m + (sum_capacities (registered configs before m) + capacity_for (slice_get configs m) rate)))
+          registers.1
+          in
+          let asks = and_parts (not (has_started before m) && not (is_some (capacity_in (registered configs before m) d))) (is_quota rate) fresh.0 in
+          (and_parts (not (has_started before m)) (not (is_some (capacity_in (registered configs before m) d))) asks.0).0
+
+      by : (b : Bool) → (m == n) ≡ b → cond b (d ∷ []) [] ≡ []
+      by false other = refl
+      by true same = absurd (false≢true (ap not (sym (ap (has_started before) (eqb-true m n same) ∙ started)) ∙ unstarted))
+  none_by before _ started may = refl
+
+  none_asked : (before rest : List Event) → has_started before n ≡ true → event_fault_from configs before rest ≡ None → asked configs n rest ≡ []
+  unfolding event_fault_from
+  none_asked before [] started none = refl
+  none_asked before (v ∷ vs) started none = by (is_valid_event configs before v) refl none (none_asked (before ++ v ∷ []) vs (started_more before (v ∷ []) started))
+    where
+      by : (b : Bool) → is_valid_event configs before v ≡ b → cond b (event_fault_from configs (before ++ v ∷ []) vs) (Some (length before)) ≡ None
+          → (event_fault_from configs (before ++ v ∷ []) vs ≡ None → asked configs n vs ≡ []) → registered_by n v.act ++ asked configs n vs ≡ []
+      by true valid left later = ap (λ l. l ++ asked configs n vs) (none_by before v.act started (valid_parts configs n before v valid)) ∙ later left
+      by false valid left later = absurd (let clash : ◌≡◌ {A = Option ℕ} (Some (length before)) None = left in cc)
+
+  -- the later events of valid ones are valid after the earlier ones
+  fault_later : (before xs ys : List Event) → event_fault_from configs before (xs ++ ys) ≡ None → event_fault_from configs (before ++ xs) ys ≡ None
+  unfolding event_fault_from
+  fault_later before [] ys none = subst (λ l. event_fault_from configs l ys ≡ None) (sym (append-nil before)) none
+  fault_later before (v ∷ vs) ys none = by (is_valid_event configs before v) none (fault_later (before ++ v ∷ []) vs ys)
+    where
+      by : (b : Bool) → cond b (event_fault_from configs (before ++ v ∷ []) (vs ++ ys)) (Some (length before)) ≡ None
+          → (event_fault_from configs (before ++ v ∷ []) (vs ++ ys) ≡ None → event_fault_from configs ((before ++ v ∷ []) ++ vs) ys ≡ None)
+          → event_fault_from configs (before ++ v ∷ vs) ys ≡ None
+      by true left later = subst (λ l. event_fault_from configs l ys ≡ None) (append_assoc before (v ∷ []) vs) (later left)
+      by false left later = absurd (let clash : ◌≡◌ {A = Option ℕ} (Some (length before)) None = left in cc)
+
+  settled : (before more : List Entry) → event_fault_from configs [] (events_of (before ++ more)) ≡ None → has_started (events_of before) n ≡ true
+      → registrations n (before ++ more) ≡ registrations n before
+  settled before more none started =
+      flat_map-append (λ (e : Entry). registered_by n e.event.act) before more
+      ∙ (ap (λ l. registrations n before ++ l)
+      (sym (same_registrations configs n more)
+      ∙ none_asked (events_of before) (events_of more) started
+      (fault_later [] (events_of before) (events_of more) (ap (event_fault_from configs []) (sym (map-append (λ (e : Entry). e.event) before more)) ∙ none)))
+      ∙ append-nil (registrations n before))
+
+pub each_start_settles : (configs : List Config) (log : List Entry) → EachStartSettles configs log
+each_start_settles configs log none k n started =
+    ap (registrations n) (sym (take-append-drop k log))
+    ∙ settled configs n (take k log) (drop k log) (ap (λ l. event_fault_from configs [] (events_of l)) (take-append-drop k log) ∙ none) started
 
 pub each_registers_once : (configs : List Config) (log : List Entry) → EachRegistersOnce configs log
 each_registers_once configs log none k n c =

@@ -21,7 +21,7 @@ use Rattle.p2p_log.specs.Lines.{name_of, same_name, placed, goes, stays, stands_
 use Rattle.p2p_log.proofs.Each.{Has, Has-either, Has-of_kept, Each-has}
 use Rattle.p2p_log.proofs.Lines.{live-append}
 use Rattle.p2p_log_rules.specs.declared.row.Row.{Row}
-use Rattle.p2p_log_rules.specs.Connections.{is_end, begins as begins_connection, ends_connection, is_begun, is_ended, live_connection}
+use Rattle.p2p_log_rules.specs.Connections.{is_end, begins_connection, ends_connection, is_begun, is_ended, live_connection}
 use Rattle.p2p_log_rules.specs.Connections.{tells_some}
 use Rattle.p2p_log_rules.specs.Effect.{effect, entry_of, begin_row, row, send_step_row}
 use Rattle.p2p_log_rules.specs.Facts.{stops_node, is_stopped as has_stopped}

@@ -90,7 +90,7 @@ module _ (configs : List Config) (log : List Entry) (by_start : Bool) (n : ℕ) 
     tracker = silent (queue.Tracker n) (λ i. refl);
     spawner = spawner_brings;
     arrivals = arrivals_bring;
-    update = silent (queue.Update n) (λ i. refl);
+    update = silent (queue.Addresses n) (λ i. refl);
     dialer = silent (queue.Dialer n) (λ i. refl);
     attempt = λ k. silent (queue.Attempt n k) (λ i. refl);
     handshake = λ h. silent (queue.Handshake n h) (λ i. refl);
@@ -98,7 +98,7 @@ module _ (configs : List Config) (log : List Entry) (by_start : Bool) (n : ℕ) 
     low = λ conn. silent (queue.Low n conn) (λ i. refl);
     held = λ conn. silent (queue.Held n conn) (λ i. refl);
     control = λ conn. silent (queue.Control n conn) (λ i. refl);
-    ready = λ conn. silent (queue.Ready n conn) (λ i. refl);
+    ready = λ conn. silent (queue.RouterAnswer n conn) (λ i. refl);
     link = λ l s. silent (queue.Link l s) (λ i. refl);
   })
 
@@ -134,7 +134,7 @@ module _ (configs : List Config) (log : List Entry) (by_start : Bool) (n : ℕ) 
     tracker = none_brought (queue.Tracker n) (λ i. refl);
     spawner = spawner_brought;
     arrivals = arrivals_brought;
-    update = none_brought (queue.Update n) (λ i. refl);
+    update = none_brought (queue.Addresses n) (λ i. refl);
     dialer = none_brought (queue.Dialer n) (λ i. refl);
     attempt = λ k. none_brought (queue.Attempt n k) (λ i. refl);
     handshake = λ h. none_brought (queue.Handshake n h) (λ i. refl);
@@ -142,7 +142,7 @@ module _ (configs : List Config) (log : List Entry) (by_start : Bool) (n : ℕ) 
     low = λ conn. none_brought (queue.Low n conn) (λ i. refl);
     held = λ conn. none_brought (queue.Held n conn) (λ i. refl);
     control = λ conn. none_brought (queue.Control n conn) (λ i. refl);
-    ready = λ conn. none_brought (queue.Ready n conn) (λ i. refl);
+    ready = λ conn. none_brought (queue.RouterAnswer n conn) (λ i. refl);
     link = λ l s. none_brought (queue.Link l s) (λ i. refl);
   })
 

@@ -205,7 +205,7 @@ module _ (n : ℕ) (key : Key) (rules : Rules Key) where
   -- ---- its rows
 
   ring_aside : (q : Queue) → Each (IsAside n) (rows.ring_of q)
-  ring_aside (queue.Update m) = ((refl, refl), tt)
+  ring_aside (queue.Addresses m) = ((refl, refl), tt)
   ring_aside (queue.Blocked m e) = ((refl, refl), tt)
   ring_aside _ = tt
 

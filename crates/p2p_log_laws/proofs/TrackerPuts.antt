@@ -33,10 +33,10 @@ use Rattle.p2p_log.proofs.Each.{Each-always, Each-append, Each-map}
 -- it holds of each kind of put but those for a dialer; of a kill where the connection is one of these
 pub record EachKindBy (n : ℕ) (P : Put → Type 0) (Killed : ℕ → Type 0) : Type 0 where
   pub kill : (conn : ℕ) → Killed conn → P (queue.Control n conn, item.Kill)
-  pub update : (e : ℕ) (u : PeerSetUpdate Key) → P (queue.Updates n e, item.Update u)
+  pub update : (e : ℕ) (u : PeerSetUpdate Key) → P (queue.PeerSetUpdates n e, item.PeerSetUpdate u)
   pub blocked : (e : ℕ) (keys : List Key) → P (queue.Blocked n e, item.Blocked keys)
-  pub heard : (ips : List IpAddr) → P (queue.Update n, item.Addresses ips)
-  pub answer : (e : ℕ) (o : Option (TrackedPeers Key)) → P (queue.Answer n e, item.PeerSet o)
+  pub heard : (ips : List IpAddr) → P (queue.Addresses n, item.Addresses ips)
+  pub answer : (e : ℕ) (o : Option (TrackedPeers Key)) → P (queue.PeerSet n e, item.PeerSet o)
 
 module _ (n : ℕ) (P : Put → Type 0) (Killed : ℕ → Type 0) (kinds : EachKindBy n P Killed) where
   each_kill : (o : Option ℕ) → ((conn : ℕ) → o ≡ Some conn → Killed conn) → Each P (puts.kill_put n o)
@@ -45,7 +45,7 @@ module _ (n : ℕ) (P : Put → Type 0) (Killed : ℕ → Type 0) (kinds : EachK
 
   each_update : (es : List ℕ) (o : Option (PeerSetUpdate Key)) → Each P (puts.update_puts n es o)
   each_update es None = tt
-  each_update es (Some u) = Each-map P (λ e. (queue.Updates n e, item.Update u)) es (Each-always (λ e. P (queue.Updates n e, item.Update u)) (λ e. kinds.update e u) es)
+  each_update es (Some u) = Each-map P (λ e. (queue.PeerSetUpdates n e, item.PeerSetUpdate u)) es (Each-always (λ e. P (queue.PeerSetUpdates n e, item.PeerSetUpdate u)) (λ e. kinds.update e u) es)
 
   each_set : (es : List ℕ) (keys : List Key) → Each P (puts.set_puts n es keys)
   each_set es keys = Each-map P (λ e. (queue.Blocked n e, item.Blocked keys)) es (Each-always (λ e. P (queue.Blocked n e, item.Blocked keys)) (λ e. kinds.blocked e keys) es)

@@ -87,9 +87,9 @@ told_silent (item.PeerSet peers) = refl
 told_silent _ = refl
 
 module _ (configs : List Config) (log : List Entry) (a : Act) (q : Queue) (none : (r : Reply) → keys_sent (sending_of a r) ≡ []) (read : reads configs log a q ≡ true) (bare : holds_bare q ≡ true) where
-  taken_shape : (x : Envelope) (rest : List Envelope) → line log q ≡ x ∷ rest → Shape configs log a (rows.taken_row (rows.told_of x.item) x)
+  taken_shape : (x : Envelope) (rest : List Envelope) → line log q ≡ x ∷ rest → Shape configs log a (rows.taken_with (rows.told_of x.item) x)
   taken_shape x rest first =
-      let r : Row = rows.taken_row (rows.told_of x.item) x in
+      let r : Row = rows.taken_with (rows.told_of x.item) x in
       record {
         moves = one_move log q x rest first r refl refl;
         reach = record { taken = (first_in (reads configs log a) log q x rest first read, tt); ended = tt; puts = tt };
@@ -114,18 +114,18 @@ answer_shape configs log e = by_asked (asked_by log e) refl
     gone : Shape configs log (act.Answer e) (only reply.Gone)
     gone = still configs log (act.Answer e) reply.Gone refl refl
 
-    by_taken : (n : ℕ) (b : Bool) → reads configs log (act.Answer e) (queue.Answer n e) ≡ true
-        → Shape configs log (act.Answer e) (cond b (only reply.Gone) (rows.oldest_row (cond (is_stopped log n) (reply.PeerSet None) reply.Pending) (line log (queue.Answer n e))))
+    by_taken : (n : ℕ) (b : Bool) → reads configs log (act.Answer e) (queue.PeerSet n e) ≡ true
+        → Shape configs log (act.Answer e) (cond b (only reply.Gone) (rows.oldest_row (cond (is_stopped log n) (reply.PeerSet None) reply.Pending) (line log (queue.PeerSet n e))))
     by_taken n true read = gone
     by_taken n false read = by_stop (is_stopped log n)
       where
-        by_stop : (b : Bool) → Shape configs log (act.Answer e) (rows.oldest_row (cond b (reply.PeerSet None) reply.Pending) (line log (queue.Answer n e)))
-        by_stop true = oldest_shape configs log (act.Answer e) (queue.Answer n e) (λ r. refl) read refl (reply.PeerSet None) refl (line log (queue.Answer n e)) refl
-        by_stop false = oldest_shape configs log (act.Answer e) (queue.Answer n e) (λ r. refl) read refl reply.Pending refl (line log (queue.Answer n e)) refl
+        by_stop : (b : Bool) → Shape configs log (act.Answer e) (rows.oldest_row (cond b (reply.PeerSet None) reply.Pending) (line log (queue.PeerSet n e)))
+        by_stop true = oldest_shape configs log (act.Answer e) (queue.PeerSet n e) (λ r. refl) read refl (reply.PeerSet None) refl (line log (queue.PeerSet n e)) refl
+        by_stop false = oldest_shape configs log (act.Answer e) (queue.PeerSet n e) (λ r. refl) read refl reply.Pending refl (line log (queue.PeerSet n e)) refl
 
     by_asked : (o : Option Act) → asked_by log e ≡ o → Shape configs log (act.Answer e) (rows.answer_by log e o)
     by_asked (Some (act.Ask (ask.PeerSet index) n)) asked =
-        by_taken n (rows.was_answered log e) (told_read configs log e (act.Answer e) (act.Ask (ask.PeerSet index) n) (queue.Answer n e) asked (same_queue-refl (queue.Answer n e)) refl)
+        by_taken n (rows.was_answered log e) (told_read configs log e (act.Answer e) (act.Ask (ask.PeerSet index) n) (queue.PeerSet n e) asked (same_queue-refl (queue.PeerSet n e)) refl)
     by_asked _ asked = gone
 
 pub next_shape : (configs : List Config) (log : List Entry) (e : ℕ) → Shape configs log (act.Next e) (rows.next_row log e)
@@ -143,8 +143,8 @@ next_shape configs log e = by_asked (asked_by log e) refl
 
     by_asked : (o : Option Act) → asked_by log e ≡ o → Shape configs log (act.Next e) (rows.next_by log e o)
     by_asked (Some (act.Ask ask.Subscribe n)) asked =
-        oldest_shape configs log (act.Next e) (queue.Updates n e) (λ r. refl)
-        (told_read configs log e (act.Next e) (act.Ask ask.Subscribe n) (queue.Updates n e) asked (same_queue-refl (queue.Updates n e)) refl) refl (rows.none_next log n) (silent n) (line log (queue.Updates n e)) refl
+        oldest_shape configs log (act.Next e) (queue.PeerSetUpdates n e) (λ r. refl)
+        (told_read configs log e (act.Next e) (act.Ask ask.Subscribe n) (queue.PeerSetUpdates n e) asked (same_queue-refl (queue.PeerSetUpdates n e)) refl) refl (rows.none_next log n) (silent n) (line log (queue.PeerSetUpdates n e)) refl
     by_asked (Some (act.Ask ask.Blocked n)) asked =
         oldest_shape configs log (act.Next e) (queue.Blocked n e) (λ r. refl)
         (told_read configs log e (act.Next e) (act.Ask ask.Blocked n) (queue.Blocked n e) asked (same_queue-refl (queue.Blocked n e)) refl) refl (rows.none_next log n) (silent n) (line log (queue.Blocked n e)) refl
@@ -190,7 +190,7 @@ abbrev IsRing : ℕ → Queue → Type 0
 IsRing n q = (holds_bare q ≡ true) × (in_tracker n q ≡ true)
 
 ring_near : (n : ℕ) (q : Queue) → in_tracker n q ≡ true → Each (IsRing n) (rows.ring_of q)
-ring_near n (queue.Update m) h = ((refl, h), tt)
+ring_near n (queue.Addresses m) h = ((refl, h), tt)
 ring_near n (queue.Blocked m e) h = ((refl, h), tt)
 ring_near n _ h = tt
 

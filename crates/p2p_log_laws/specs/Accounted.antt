@@ -22,12 +22,12 @@ use Rattle.p2p_log_laws.specs.OneAnswer.{HasOneAnswer}
 use Rattle.p2p_log_laws.specs.OneEnd.{EachHasOneEnd, NothingElseEnds}
 use Rattle.p2p_log_laws.specs.Order.{AreDeliveredInOrderOverOne, AreDeliveredInOrderOfConnections, EachWentOver}
 use Rattle.p2p_log_laws.specs.Releasing.{EachIsReleasedAsItEnds}
-use Rattle.p2p_log_laws.specs.Subscribing.{EachRegistersOnce, EachStartSubscribes}
+use Rattle.p2p_log_laws.specs.Subscribing.{EachRegistersOnce, EachStartSettles, EachStartSubscribes}
 
--- each beginning of the log is lawful too, so that each of these held at each earlier moment; each step of an actor that acts is idle
--- exactly where none of its inputs is ready; each start puts the subscriptions of
--- the channels that were registered before it, of which none is so twice; items leave a queue in their order; each send is for those of the keys that it is offered to that its channel's quota
--- admits, and each message for a check for those that this admitted, once; the newest list that a channel was told of, to which a
+-- each beginning of the log is lawful too, so that each of these held at each earlier moment; each step of an actor is
+-- what that makes of its first input, and idle exactly where it acts and none is ready; each start puts the subscriptions of the channels that were
+-- registered before it, of which none is so twice, and none later; items leave a queue in their order; each send is for those of the keys that it is
+-- offered to that its channel's quota admits, and each message for a check for those that this admitted, once; the newest list that a channel was told of, to which a
 -- message for all is offered, has the peers that are connected; each copy of each accepted send has exactly one end: delivered
 -- once, or waiting in a queue, or dropped; what is delivered was sent, is read, and in order; each drop shows its cause; the fate
 -- of each copy, which a report tells, is true; each key that is reserved at a node is held by one thing there, or its one release
@@ -41,6 +41,7 @@ pub record IsAccounted (configs : List Config) (log : List Entry) : Type 0 where
   pub serves : EachStepServesFirst configs log
   pub starts : EachStartSubscribes log
   pub registered_once : EachRegistersOnce configs log
+  pub settled : EachStartSettles configs log
   pub admitted : EachIsAdmitted configs log
   pub checks : ChecksAreAdmitted log
   pub checked : EachIsChecked configs log

@@ -54,8 +54,8 @@ nodes_start =
     ∷ done (act.Start 1) [] ((queue.Router 1, item.Subscribe 7) ∷ [])
     ∷ asked 0 4
     ∷ asked 1 5
-    ∷ done (act.Tracker 0) ((4, 0) ∷ []) ((queue.Update 0, item.Addresses (ip 2 ∷ [])) ∷ [])
-    ∷ done (act.Tracker 1) ((5, 0) ∷ []) ((queue.Update 1, item.Addresses (ip 1 ∷ [])) ∷ [])
+    ∷ done (act.Tracker 0) ((4, 0) ∷ []) ((queue.Addresses 0, item.Addresses (ip 2 ∷ [])) ∷ [])
+    ∷ done (act.Tracker 1) ((5, 0) ∷ []) ((queue.Addresses 1, item.Addresses (ip 1 ∷ [])) ∷ [])
     ∷ []
 
 -- entries 8 and 9: the first node's dialer asks whom to dial
@@ -108,13 +108,13 @@ connections_begin =
 -- entry 29: the router hears of the connection, and the channel's list of peers, which nobody has read, is overwritten
 abbrev pub list_overwritten : Entry
 list_overwritten =
-    entry (act.Router 0) reply.Ok ((26, 1) ∷ []) ((queue.Ready 0 24, item.Answer) ∷ (queue.Peers 0 7, item.Peers (key 2 ∷ [])) ∷ []) (end.Item 28 0 ∷ [])
+    entry (act.Router 0) reply.Ok ((26, 1) ∷ []) ((queue.RouterAnswer 0 24, item.RouterAnswer) ∷ (queue.Peers 0 7, item.Peers (key 2 ∷ [])) ∷ []) (end.Item 28 0 ∷ [])
 
 -- entries 30 to 35: the second router does so too, both connections take their routers' answers, and both trackers hear of them
 abbrev pub connections_run : List Entry
 connections_run =
     done (act.Router 1) ((3, 0) ∷ []) ((queue.Peers 1 7, item.Peers []) ∷ [])
-    ∷ entry (act.Router 1) reply.Ok ((27, 1) ∷ []) ((queue.Ready 1 25, item.Answer) ∷ (queue.Peers 1 7, item.Peers (key 1 ∷ [])) ∷ []) (end.Item 30 0 ∷ [])
+    ∷ entry (act.Router 1) reply.Ok ((27, 1) ∷ []) ((queue.RouterAnswer 1 25, item.RouterAnswer) ∷ (queue.Peers 1 7, item.Peers (key 1 ∷ [])) ∷ []) (end.Item 30 0 ∷ [])
     ∷ done (act.SendStep 24 0) ((29, 0) ∷ []) []
     ∷ done (act.SendStep 25 1) ((31, 0) ∷ []) []
     ∷ done (act.Tracker 0) ((26, 0) ∷ []) []

@@ -1,5 +1,5 @@
--- What a start puts: the subscriptions that waited for it.
-use Rattle.std.specs.Prelude.{◌≡◌, ℕ, ◌≤◌, ◌==◌, cond, List, [], ◌∷◌, map, flat_map, take, count_by, Some, None, slice_get}
+-- What a start puts: the subscriptions that waited for it; and that channels are registered before it alone.
+use Rattle.std.specs.Prelude.{◌≡◌, ℕ, ◌≤◌, ◌==◌, true, cond, List, [], ◌∷◌, map, flat_map, take, count_by, Some, None, slice_get}
 use Rattle.p2p_log.specs.declared.config.Config.{Config}
 use Rattle.p2p_log.specs.declared.queue.Queue.{Queue}
 use Rattle.p2p_log.specs.declared.queue.Queue.TheVariants as queue
@@ -9,7 +9,7 @@ use Rattle.p2p_log.specs.declared.entry.Entry.{Entry}
 use Rattle.p2p_log.specs.declared.entry.Reply.TheVariants as reply
 use Rattle.p2p_log.specs.declared.event.Act.{Act}
 use Rattle.p2p_log.specs.declared.event.Act.TheVariants as act
-use Rattle.p2p_log_rules.specs.Facts.{events_of}
+use Rattle.p2p_log_rules.specs.Facts.{events_of, has_started}
 use Rattle.p2p_log_rules.specs.Valid.{event_fault}
 
 module _ (n : ℕ) where
@@ -37,3 +37,8 @@ EachStartSubscribes log =
 abbrev pub EachRegistersOnce : List Config → List Entry → Type 0
 EachRegistersOnce configs log =
     event_fault configs (events_of log) ≡ None → (k n c : ℕ) → count_by (λ d. c == d) (registrations n (take k log)) ≤ 1
+
+-- and none is registered at a node that has started: its channels, and so those of each of its connections, are the same from then on
+abbrev pub EachStartSettles : List Config → List Entry → Type 0
+EachStartSettles configs log =
+    event_fault configs (events_of log) ≡ None → (k n : ℕ) → has_started (events_of (take k log)) n ≡ true → registrations n log ≡ registrations n (take k log)

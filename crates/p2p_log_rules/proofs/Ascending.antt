@@ -21,7 +21,8 @@ use Rattle.p2p_log_rules.specs.Taking.{taken, state_from}
 use Rattle.p2p_log_rules.specs.Tellings.{Telling, last_or}
 use Rattle.p2p_log_rules.specs.Tellings as telling
 use Rattle.p2p_log_rules.specs.Told.{asks_list, answer_tells, ask_tells, spawn_tells, begins_attempt, ends, attempts_in, made_in, is_over, connections_in, tells, told}
-use Rattle.p2p_log_rules.proofs.Families.{kind, kinds_of, has, are_apart, untold_of}
+use Rattle.p2p_log_rules.proofs.TellingKinds as kind
+use Rattle.p2p_log_rules.proofs.Families.{telling_kind, kinds_of, has, are_apart, untold_of}
 use Rattle.p2p_log_rules.proofs.Handshakes.{handshakes_now, without_name}
 use Rattle.p2p_log_rules.proofs.Ignoring.{by_entries, flat_map-none}
 use Rattle.p2p_log_rules.proofs.LinkTells.{tells_act}
@@ -136,7 +137,7 @@ module _ (n : ℕ) where
   no_attempt (telling.attempt_begun m k key ingress at) h = absurd (cc)
   no_attempt _ h = refl
 
-  attempt_reads : (t : Telling) → has (7 ∷ []) (kind t) ≡ false → is_attempt_begun t ≡ false
+  attempt_reads : (t : Telling) → has (kind.attempt_begun ∷ []) (telling_kind t) ≡ false → is_attempt_begun t ≡ false
   attempt_reads (telling.attempt_begun m k key ingress at) h = absurd (cc)
   attempt_reads _ h = refl
 
@@ -173,7 +174,7 @@ module _ (n : ℕ) where
           (one_answered m (last_or 0 (asks_list m) ts) (length log) e.event.at e.event.seed (taken log e))
       by a acts =
           inl (flat_map-none is_attempt_begun attempt_started no_attempt (tells ts log e)
-          (untold_of is_attempt_begun (7 ∷ []) attempt_reads ts log e (ap (λ b. are_apart (kinds_of b) (7 ∷ [])) acts)))
+          (untold_of is_attempt_begun (kind.attempt_begun ∷ []) attempt_reads ts log e (ap (λ b. are_apart (kinds_of b) (kind.attempt_begun ∷ [])) acts)))
 
   pub attempts-ascend : (log : List Entry) → Ascends (length log) (attempts_in (told log) n)
   attempts-ascend log = ascends_standing (begins_attempt n) (ends n) (length log) (told log) (ascends_told attempt_started begins_one_attempt log)
@@ -189,7 +190,7 @@ module _ (n : ℕ) where
   none_made (telling.connection_made m conn key link) h = absurd (cc)
   none_made _ h = refl
 
-  made_reads : (t : Telling) → has (15 ∷ []) (kind t) ≡ false → is_made t ≡ false
+  made_reads : (t : Telling) → has (kind.connection_made ∷ []) (telling_kind t) ≡ false → is_made t ≡ false
   made_reads (telling.connection_made m conn key link) h = absurd (cc)
   made_reads _ h = refl
 
@@ -210,7 +211,7 @@ module _ (n : ℕ) where
       by : (a : Act) → e.event.act ≡ a → One (flat_map (made_in n) (tells ts log e))
       by (act.Spawner m) acts = subst One (sym (ap (flat_map (made_in n)) (tells_act ts log e (act.Spawner m) acts))) (one_spawned m (length log) (taken log e))
       by a acts =
-          inl (flat_map-none is_made (made_in n) none_made (tells ts log e) (untold_of is_made (15 ∷ []) made_reads ts log e (ap (λ b. are_apart (kinds_of b) (15 ∷ [])) acts)))
+          inl (flat_map-none is_made (made_in n) none_made (tells ts log e) (untold_of is_made (kind.connection_made ∷ []) made_reads ts log e (ap (λ b. are_apart (kinds_of b) (kind.connection_made ∷ [])) acts)))
 
   pub connections-ascend : (log : List Entry) → Ascends (length log) (connections_in (told log) n)
   connections-ascend log = ascends_filter (λ conn. not (list_any (is_over n conn) (told log))) (length log) (flat_map (made_in n) (told log)) (ascends_told (made_in n) makes_one log)

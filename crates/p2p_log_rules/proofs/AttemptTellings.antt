@@ -21,7 +21,9 @@ use Rattle.p2p_log_rules.specs.Tellings.{Telling, last_told, last_or, or_new, le
 use Rattle.p2p_log_rules.specs.Tellings as telling
 use Rattle.p2p_log_rules.specs.Told.{Begun, dialing_dropped, when, asks_list, link_in, answer_tells, ask_tells, took_tells, left_tells, act_tells, tells, told}
 use Rattle.p2p_log_rules.proofs.Attempts.{of_attempt, is_begun, begun_or, attempt_after, attempt_told, attempt_in-more, nothing_told, others_told, none_told, attempts_of-append}
-use Rattle.p2p_log_rules.proofs.Families.{kind, has, untold_act}
+use Rattle.p2p_log_rules.proofs.TellingKinds.{Kind}
+use Rattle.p2p_log_rules.proofs.TellingKinds as kind
+use Rattle.p2p_log_rules.proofs.Families.{telling_kind, has, untold_act}
 use Rattle.p2p_log_rules.proofs.Told.{NoneTold, NoneDialed, NoneTried, ask_quiet, cut_quiet, quiet_act}
 use Rattle.p2p_log_rules.proofs.Tellings.{late_told, when_quiet}
 
@@ -54,10 +56,10 @@ module _ (n k : ℕ) where
   none_tried m e at h = record { addresses = λ seed addresses. h; link = h; ended = h; drops = λ link. refl }
 
   -- the kinds that tell of it
-  abbrev attempt_kinds : List ℕ
-  attempt_kinds = 7 ∷ 8 ∷ 9 ∷ 10 ∷ 11 ∷ 12 ∷ 13 ∷ []
+  abbrev attempt_kinds : List Kind
+  attempt_kinds = kind.attempt_begun ∷ kind.addresses_told ∷ kind.dial_answered ∷ kind.link_opened ∷ kind.addresses_taken ∷ kind.link_taken ∷ kind.attempt_ended ∷ []
 
-  of_kinds : (t : Telling) → has attempt_kinds (kind t) ≡ false → of_attempt n k t ≡ false
+  of_kinds : (t : Telling) → has attempt_kinds (telling_kind t) ≡ false → of_attempt n k t ≡ false
   of_kinds (telling.attempt_begun m j key ingress at) h = cc
   of_kinds (telling.addresses_told m j) h = cc
   of_kinds (telling.dial_answered m j event) h = cc
@@ -67,7 +69,7 @@ module _ (n k : ℕ) where
   of_kinds (telling.attempt_ended m j) h = cc
   of_kinds _ h = refl
 
-  begun_kinds : (t : Telling) → has (7 ∷ []) (kind t) ≡ false → is_begun n k t ≡ false
+  begun_kinds : (t : Telling) → has (kind.attempt_begun ∷ []) (telling_kind t) ≡ false → is_begun n k t ≡ false
   begun_kinds (telling.attempt_begun m j key ingress at) h = cc
   begun_kinds _ h = refl
 
@@ -96,7 +98,7 @@ module _ (n k : ℕ) where
         unnamed : (b c : Bool) (x : Begun) → c ≡ false → is_some (cond (b && c) (Some x) None) ≡ false
         unnamed true c x other = ap (λ c. is_some (cond c (Some x) None)) other
         unnamed false c x other = refl
-    none_begun a h = untold_act (is_begun n k) (7 ∷ []) begun_kinds ts before name at seed r items puts a refl
+    none_begun a h = untold_act (is_begun n k) (kind.attempt_begun ∷ []) begun_kinds ts before name at seed r items puts a refl
 
 -- an act that tells nothing of this attempt, as of another
 pub attempts_of-others : (configs : List Config) (log : List Entry) (e : Entry) (n k : ℕ) (a : Act) → e.event.act ≡ a → NoneTold (of_attempt n k) (length log) e.event.at a

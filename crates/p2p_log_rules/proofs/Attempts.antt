@@ -7,10 +7,10 @@ use Rattle.std.proofs.lemmas.Option.{same_Some}
 use Rattle.p2p_base.specs.declared.key.Key.{Key}
 use Rattle.p2p_log.specs.declared.config.Config.{Config}
 use Rattle.p2p_log.specs.declared.entry.Entry.{Entry}
-use Rattle.p2p_log_rules.specs.Attempting.{Attempt, DialRules, dial_rules_at, socket_of, drawn_address, tells_addresses, answers, draws, waits, attempt_since, attempt_by_last, attempt_in, attempts_of}
+use Rattle.p2p_log_rules.specs.Attempting.{Attempt, DialRules, dial_rules_at, socket_of, drawn_address, tells_addresses, answers_dial, draws, waits, attempt_since, attempt_by_last, attempt_in, attempts_of}
 use Rattle.p2p_log_rules.specs.Tellings.{Telling, Last, last_told, last_or, or_new, first_or, any_or, least_by, least_or}
 use Rattle.p2p_log_rules.specs.Tellings as telling
-use Rattle.p2p_log_rules.specs.Told.{Begun, begins, ends, opens, opened_since, link_in, tells, told}
+use Rattle.p2p_log_rules.specs.Told.{Begun, begun_as, ends, opens, opened_since, link_in, tells, told}
 use Rattle.p2p_log_rules.proofs.Facts.{list_any-last}
 use Rattle.p2p_log_rules.proofs.Tellings.{told-append, or_left, or_right, last_or-append, first_or-append, any_or-append, least_or-append, with_last, last_told-one}
 
@@ -30,7 +30,7 @@ module _ (n k : ℕ) where
 
   -- whether it begins it
   abbrev pub is_begun : Telling → Bool
-  is_begun t = is_some (begins n k t)
+  is_begun t = is_some (begun_as n k t)
 
 -- the key of one that stands
 abbrev pub key_of : Option Attempt → Option Key
@@ -47,7 +47,7 @@ module _ (rules : DialRules) (n k : ℕ) where
     address = or_new (draws n k rules.private t) a.address;
     deadline = least_by (waits n k rules.handshake_timeout t) a.deadline;
     is_resolved = tells_addresses n k t || a.is_resolved;
-    answer = unwrap_or (answers n k t) a.answer;
+    answer = unwrap_or (answers_dial n k t) a.answer;
     link = unwrap_or (opens n k t) a.link;
   }
 
@@ -57,7 +57,7 @@ module _ (rules : DialRules) (n k : ℕ) where
 
   -- and of one that may not stand
   abbrev pub attempt_after : Telling → Option Attempt → Option Attempt
-  attempt_after t o = begun_or (begins n k t) (cond (ends n k t) None (option_map (attempt_one t) o))
+  attempt_after t o = begun_or (begun_as n k t) (cond (ends n k t) None (option_map (attempt_one t) o))
 
   abbrev pub attempt_told : List Telling → Option Attempt → Option Attempt
   attempt_told [] o = o
@@ -70,11 +70,11 @@ module _ (rules : DialRules) (n k : ℕ) where
       ap (λ x. record a { address = x }) (first_or-append (socket_of b.ingress) (draws n k rules.private) ts (t ∷ []))
       ∙ (ap (λ x. record a { address = o.address; deadline = x }) (least_or-append (b.at + rules.timeout) (waits n k rules.handshake_timeout) ts (t ∷ []))
       ∙ (ap (λ x. record a { address = o.address; deadline = o.deadline; is_resolved = x }) (any_or-append false (tells_addresses n k) ts (t ∷ []))
-      ∙ (ap (λ x. record a { address = o.address; deadline = o.deadline; is_resolved = o.is_resolved; answer = x }) (last_or-append None (answers n k) ts (t ∷ []))
+      ∙ (ap (λ x. record a { address = o.address; deadline = o.deadline; is_resolved = o.is_resolved; answer = x }) (last_or-append None (answers_dial n k) ts (t ∷ []))
       ∙ ap (λ x. record a { address = o.address; deadline = o.deadline; is_resolved = o.is_resolved; answer = o.answer; link = x }) (last_or-append None (opens n k) ts (t ∷ [])))))
 
   pub attempt_in-one : (ts : List Telling) (t : Telling) → attempt_in n k rules (ts ++ t ∷ []) ≡ attempt_after t (attempt_in n k rules ts)
-  attempt_in-one ts t = ap (attempt_by_last n k rules) (last_told-one (begins n k) ts t) ∙ by (begins n k t) (last_told (begins n k) ts)
+  attempt_in-one ts t = ap (attempt_by_last n k rules) (last_told-one (begun_as n k) ts t) ∙ by (begun_as n k t) (last_told (begun_as n k) ts)
     where
       none : (b : Bool) → None ≡ cond b None (option_map (attempt_one t) None)
       none true = refl
@@ -132,7 +132,7 @@ module _ (rules : DialRules) (n k : ℕ) where
   key_told [] o none = refl
   key_told (t ∷ ts) o none =
       key_told ts (attempt_after t o) (or_right (is_begun n k t) (list_any (is_begun n k) ts) none)
-      ∙ (ap (λ x. cond (list_any (ends n k) ts) None x) (one (begins n k t) (ends n k t) o (or_left (is_begun n k t) (list_any (is_begun n k) ts) none)) ∙ both (ends n k t) (list_any (ends n k) ts) (key_of o))
+      ∙ (ap (λ x. cond (list_any (ends n k) ts) None x) (one (begun_as n k t) (ends n k t) o (or_left (is_begun n k t) (list_any (is_begun n k) ts) none)) ∙ both (ends n k t) (list_any (ends n k) ts) (key_of o))
     where
       one : (new : Option Begun) (ended : Bool) (o : Option Attempt) → is_some new ≡ false → key_of (begun_or new (cond ended None (option_map (attempt_one t) o))) ≡ cond ended None (key_of o)
       one (Some b) ended o none = cc
@@ -162,7 +162,7 @@ module _ (rules : DialRules) (n k : ℕ) where
     pub before : Attempt
     pub is : o ≡ Some before
     pub key : a.key ≡ before.key
-    pub answer : a.answer ≡ last_or before.answer (answers n k) ts
+    pub answer : a.answer ≡ last_or before.answer (answers_dial n k) ts
 
   pub stood_before : (ts : List Telling) (o : Option Attempt) (a : Attempt) → list_any (is_begun n k) ts ≡ false → attempt_told ts o ≡ Some a → Stood ts o a
   stood_before [] o a none is = record { before = a; is = is; key = refl; answer = refl }
@@ -178,12 +178,12 @@ module _ (rules : DialRules) (n k : ℕ) where
 
       go : Stood ts (attempt_after t o) a → Stood (t ∷ ts) o a
       go h =
-          let was = one (begins n k t) (ends n k t) o h.before (or_left (is_begun n k t) (list_any (is_begun n k) ts) none) h.is in
+          let was = one (begun_as n k t) (ends n k t) o h.before (or_left (is_begun n k t) (list_any (is_begun n k) ts) none) h.is in
           record {
             before = was.0;
             is = was.1;
             key = h.key ∙ ap (λ (x : Attempt). x.key) (sym was.2);
-            answer = h.answer ∙ ap (λ (x : Attempt). last_or x.answer (answers n k) ts) (sym was.2);
+            answer = h.answer ∙ ap (λ (x : Attempt). last_or x.answer (answers_dial n k) ts) (sym was.2);
           }
 
 -- ---- after one entry more
@@ -204,7 +204,7 @@ link_of_attempt (Some a) = a.link
 
 pub link_is : (configs : List Config) (log : List Entry) (n k : ℕ) → link_in (told log) n k ≡ link_of_attempt (attempts_of configs log n k)
 unfolding attempts_of
-link_is configs log n k = by (last_told (begins n k) (told log))
+link_is configs log n k = by (last_told (begun_as n k) (told log))
   where
     by : (o : Option (Last Begun)) → opened_since n k o ≡ link_of_attempt (attempt_by_last n k (dial_rules_at configs n) o)
     by None = refl

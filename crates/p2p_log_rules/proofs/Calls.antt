@@ -28,7 +28,9 @@ use Rattle.p2p_log_rules.specs.Told.{tells, told}
 use Rattle.p2p_log_rules.specs.Tracked.{asked_by, question_of, grants_peer, asked_tells, served_tells, called_tells, wanted_tells, subscriber_tells, tracker_tells}
 use Rattle.p2p_log_rules.specs.Tracking.{rules_at, called, calls_of, wants_sets, update_subscriptions, wants_blocks, blocked_subscriptions}
 use Rattle.p2p_log_rules.proofs.Acted.{tells_as, nothing_of, collected-append}
-use Rattle.p2p_log_rules.proofs.Families.{kind, kinds_of, has, are_apart}
+use Rattle.p2p_log_rules.proofs.TellingKinds.{Kind}
+use Rattle.p2p_log_rules.proofs.TellingKinds as kind
+use Rattle.p2p_log_rules.proofs.Families.{telling_kind, kinds_of, has, are_apart}
 use Rattle.p2p_log_rules.proofs.Ignoring.{flat_map-none}
 use Rattle.p2p_log_rules.proofs.Tellings.{told-append}
 use Rattle.p2p_log_rules.proofs.Steps.{steps_tracker}
@@ -144,10 +146,10 @@ module _ (cooldown n : ℕ) where
       ∙ step_told log m at seed granted r items calls
 
   -- what tells of no call
-  abbrev call_kinds : List ℕ
-  call_kinds = 60 ∷ 61 ∷ 62 ∷ 63 ∷ 64 ∷ 65 ∷ 66 ∷ 67 ∷ []
+  abbrev call_kinds : List Kind
+  call_kinds = kind.blocks_ended ∷ kind.set_asked ∷ kind.addresses_asked ∷ kind.block_asked ∷ kind.connection_heard ∷ kind.dial_weighed ∷ kind.listen_weighed ∷ kind.release_heard ∷ []
 
-  of_calls : (t : Telling) → has call_kinds (kind t) ≡ false → called cooldown n t ≡ []
+  of_calls : (t : Telling) → has call_kinds (telling_kind t) ≡ false → called cooldown n t ≡ []
   of_calls (telling.blocks_ended m at) h = cc
   of_calls (telling.set_asked m index primary secondary) h = cc
   of_calls (telling.addresses_asked m peers) h = cc
@@ -200,13 +202,13 @@ abbrev pub subscribes_blocked : Act → Bool
 subscribes_blocked (act.Ask ask.Blocked n) = true
 subscribes_blocked _ = false
 
-abbrev questions : List ℕ
-questions = 68 ∷ 69 ∷ []
+abbrev questions : List Kind
+questions = kind.sets_wanted ∷ kind.blocks_wanted ∷ []
 
 -- what a step of a tracker tells of its calls is of no subscription
-module _ (f : Telling → List ℕ) (others : (t : Telling) → has questions (kind t) ≡ false → f t ≡ []) where
-  none_wanted : (ts : List Telling) → list_any (λ t. has questions (kind t)) ts ≡ false → flat_map f ts ≡ []
-  none_wanted ts h = flat_map-none (λ t. has questions (kind t)) f others ts h
+module _ (f : Telling → List ℕ) (others : (t : Telling) → has questions (telling_kind t) ≡ false → f t ≡ []) where
+  none_wanted : (ts : List Telling) → list_any (λ t. has questions (telling_kind t)) ts ≡ false → flat_map f ts ≡ []
+  none_wanted ts h = flat_map-none (λ t. has questions (telling_kind t)) f others ts h
 
   asked_unwanted : (m at : ℕ) (o : Option Asked) → flat_map f (asked_tells m at o) ≡ []
   asked_unwanted m at None = refl
@@ -271,7 +273,7 @@ pub update_subscriptions-append : (log : List Entry) (e : Entry) (n : ℕ) → u
 unfolding update_subscriptions
 update_subscriptions-append log e n = wanted-append (wants_sets n) others subscribes n each log e
   where
-    others : (t : Telling) → has questions (kind t) ≡ false → wants_sets n t ≡ []
+    others : (t : Telling) → has questions (telling_kind t) ≡ false → wants_sets n t ≡ []
     others (telling.sets_wanted m d) h = cc
     others _ h = refl
 
@@ -290,7 +292,7 @@ pub blocked_subscriptions-append : (log : List Entry) (e : Entry) (n : ℕ) → 
 unfolding blocked_subscriptions
 blocked_subscriptions-append log e n = wanted-append (wants_blocks n) others subscribes_blocked n each log e
   where
-    others : (t : Telling) → has questions (kind t) ≡ false → wants_blocks n t ≡ []
+    others : (t : Telling) → has questions (telling_kind t) ≡ false → wants_blocks n t ≡ []
     others (telling.blocks_wanted m d) h = cc
     others _ h = refl
 

@@ -14,27 +14,28 @@ use Rattle.p2p_log.specs.Lines.{line}
 use Rattle.p2p_log_rules.specs.Facts.{events_of, starts, turns, stops, has_started, starts_node, stops_node, is_started, is_stopped, is_up, with_capacity, registers_at, registered, rates_by, rate_told, rates, channels, state_from}
 use Rattle.p2p_log_rules.specs.Tellings.{Telling}
 use Rattle.p2p_log_rules.specs.Tellings as telling
-use Rattle.p2p_log_rules.specs.Told.{tells, told, when, unless_stopped, messages_stop, arrivals_stop, attempts_in, attempt_stops, handshakes_in, handshake_stops, connections_in, connection_stops, stop_tells}
+use Rattle.p2p_log_rules.specs.Told.{tells, told, when, told_unless_stopped, messages_stop, arrivals_stop, attempts_in, attempt_stops, handshakes_in, handshake_stops, connections_in, connection_stops, stop_tells}
 use Rattle.p2p_log_rules.proofs.Acted.{tells_as, nothing_of, found-append, found-kept, collected-append, collected-kept}
 use Rattle.p2p_log_rules.proofs.Bools.{and_false, or_false, or_true}
 use Rattle.p2p_log_rules.proofs.Facts.{events_of-append, has_started-append, registered-append}
-use Rattle.p2p_log_rules.proofs.Families.{kind, kinds_of, has, are_apart, untold_of}
+use Rattle.p2p_log_rules.proofs.TellingKinds as kind
+use Rattle.p2p_log_rules.proofs.Families.{telling_kind, kinds_of, has, are_apart, untold_of}
 use Rattle.p2p_log_rules.proofs.Ignoring.{by_entries}
 use Rattle.p2p_log_rules.proofs.Tellings.{when_quiet, or_left}
 use Rattle.p2p_log_rules.proofs.Told.{stop_quiet}
 
 -- ---- whether a node is up
 
-start_kinds : (n : ℕ) (t : Telling) → has (0 ∷ []) (kind t) ≡ false → starts_node n t ≡ false
+start_kinds : (n : ℕ) (t : Telling) → has (kind.node_started ∷ []) (telling_kind t) ≡ false → starts_node n t ≡ false
 start_kinds n (telling.node_started m at) h = cc
 start_kinds n _ h = refl
 
-stop_kinds : (n : ℕ) (t : Telling) → has (1 ∷ []) (kind t) ≡ false → stops_node n t ≡ false
+stop_kinds : (n : ℕ) (t : Telling) → has (kind.node_stopped ∷ []) (telling_kind t) ≡ false → stops_node n t ≡ false
 stop_kinds n (telling.node_stopped m) h = cc
 stop_kinds n _ h = refl
 
 -- this is told of a node that has not stopped
-pub unless_is : (log : List Entry) (n : ℕ) (us : List Telling) → is_stopped log n ≡ false → unless_stopped (told log) n us ≡ us
+pub unless_is : (log : List Entry) (n : ℕ) (us : List Telling) → is_stopped log n ≡ false → told_unless_stopped (told log) n us ≡ us
 unfolding is_stopped
 unless_is log n us lasts = ap (λ b. when (not b) us) lasts
 
@@ -47,7 +48,7 @@ stops_none log e n none = by e.event.act refl none
         ap (list_any (stops_node n)) (tells_as (told log) log e (act.Stop by_start m) is)
         ∙ when_quiet (stops_node n) (not (list_any (stops_node m) (told log))) (stop_tells (told log) log m)
         (stop_quiet (stops_node n) (length log) e.event.at (told log) log m (record { stops = none; attempt = λ k. refl; handshake = λ h link. refl; connection = λ conn. refl; drops = λ link s. refl }))
-    by a is none = untold_of (stops_node n) (1 ∷ []) (stop_kinds n) (told log) log e (ap (λ b. are_apart (kinds_of b) (1 ∷ [])) is)
+    by a is none = untold_of (stops_node n) (kind.node_stopped ∷ []) (stop_kinds n) (told log) log e (ap (λ b. are_apart (kinds_of b) (kind.node_stopped ∷ [])) is)
 
 turns_none : (n : ℕ) (a : Act) → turns n a ≡ false → stops n a ≡ false
 turns_none n (act.Stop by_start m) none = none
@@ -63,7 +64,7 @@ is_up-kept log e n none = ap (λ b. b && not (list_any (stops_node n) (told (log
     starts_none (act.Start m) is none =
         ap (list_any (starts_node n)) (tells_as (told log) log e (act.Start m) is)
         ∙ when_quiet (starts_node n) (not (list_any (stops_node m) (told log))) (telling.node_started m e.event.at ∷ []) (ap (λ b. b || false) none)
-    starts_none a is none = untold_of (starts_node n) (0 ∷ []) (start_kinds n) (told log) log e (ap (λ b. are_apart (kinds_of b) (0 ∷ [])) is)
+    starts_none a is none = untold_of (starts_node n) (kind.node_started ∷ []) (start_kinds n) (told log) log e (ap (λ b. are_apart (kinds_of b) (kind.node_started ∷ [])) is)
 
 pub is_stopped-kept : (log : List Entry) (e : Entry) (n : ℕ) → stops n e.event.act ≡ false → is_stopped (log ++ e ∷ []) n ≡ is_stopped log n
 unfolding is_stopped
@@ -214,7 +215,7 @@ is_up-asked log n = by_entries (λ l. is_stopped l n ≡ false → is_up l n ≡
 
 -- ---- channels
 
-of_rates : (n : ℕ) (t : Telling) → has (20 ∷ []) (kind t) ≡ false → rate_told n t ≡ []
+of_rates : (n : ℕ) (t : Telling) → has (kind.channel_registered ∷ []) (telling_kind t) ≡ false → rate_told n t ≡ []
 of_rates n (telling.channel_registered m c rate) h = cc
 of_rates n _ h = refl
 
@@ -229,11 +230,11 @@ rate_of-act log e n (act.Register c m rate) is lasts = ap (flat_map (rate_told n
     elsewhere true so = ap (λ b. cond b ((c, rate) ∷ []) [] ++ []) so
     elsewhere false so = refl
 
-    here : (b : Bool) → (m == n) ≡ b → flat_map (rate_told n) (unless_stopped (told log) m told_now) ≡ cond (m == n) ((c, rate) ∷ []) []
+    here : (b : Bool) → (m == n) ≡ b → flat_map (rate_told n) (told_unless_stopped (told log) m told_now) ≡ cond (m == n) ((c, rate) ∷ []) []
     here true so =
         ap (flat_map (rate_told n)) (unless_is log m told_now (ap (is_stopped log) (eqb-true m n so) ∙ lasts)) ∙ append-nil (cond (m == n) ((c, rate) ∷ []) [])
     here false so = elsewhere (not (list_any (stops_node m) (told log))) so ∙ sym (ap (λ b. cond b ((c, rate) ∷ []) []) so)
-rate_of-act log e n a is lasts = nothing_of (20 ∷ []) (rate_told n) (of_rates n) (told log) log e (ap (λ b. are_apart (kinds_of b) (20 ∷ [])) is)
+rate_of-act log e n a is lasts = nothing_of (kind.channel_registered ∷ []) (rate_told n) (of_rates n) (told log) log e (ap (λ b. are_apart (kinds_of b) (kind.channel_registered ∷ [])) is)
 
 -- and nothing by an act that registers none there
 no_rate-act : (log : List Entry) (e : Entry) (n : ℕ) (a : Act) → e.event.act ≡ a → rates_by n a ≡ [] → flat_map (rate_told n) (tells (told log) log e) ≡ []
@@ -242,7 +243,7 @@ no_rate-act log e n (act.Register c m rate) is none = ap (flat_map (rate_told n)
     by : (b : Bool) → flat_map (rate_told n) (when b (telling.channel_registered m c rate ∷ [])) ≡ []
     by true = append-nil (cond (m == n) ((c, rate) ∷ []) []) ∙ none
     by false = refl
-no_rate-act log e n a is none = nothing_of (20 ∷ []) (rate_told n) (of_rates n) (told log) log e (ap (λ b. are_apart (kinds_of b) (20 ∷ [])) is)
+no_rate-act log e n a is none = nothing_of (kind.channel_registered ∷ []) (rate_told n) (of_rates n) (told log) log e (ap (λ b. are_apart (kinds_of b) (kind.channel_registered ∷ [])) is)
 
 pub rates-append : (log : List Entry) (e : Entry) (n : ℕ) → is_stopped log n ≡ false → rates (log ++ e ∷ []) n ≡ rates log n ++ rates_by n e.event.act
 unfolding rates

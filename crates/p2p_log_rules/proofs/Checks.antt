@@ -20,15 +20,17 @@ use Rattle.p2p_log_rules.specs.Tellings.{Telling, Last, last_told}
 use Rattle.p2p_log_rules.specs.Tellings as telling
 use Rattle.p2p_log_rules.specs.Told.{check_tells, admitted_in, told}
 use Rattle.p2p_log_rules.proofs.Acted.{tells_as, TellsNone}
-use Rattle.p2p_log_rules.proofs.Families.{kind, kinds_of, has, are_apart, untold_of}
+use Rattle.p2p_log_rules.proofs.TellingKinds.{Kind}
+use Rattle.p2p_log_rules.proofs.TellingKinds as kind
+use Rattle.p2p_log_rules.proofs.Families.{telling_kind, kinds_of, has, are_apart, untold_of}
 use Rattle.p2p_log_rules.proofs.Ignoring.{either_same, by_entries}
 use Rattle.p2p_log_rules.proofs.Tellings.{told-append, with_last, last_told-one, untold}
 
 -- ---- after one telling more
 
 -- what tells of checks
-abbrev pub check_kinds : List ℕ
-check_kinds = 44 ∷ 45 ∷ []
+abbrev pub check_kinds : List Kind
+check_kinds = kind.check_made ∷ kind.check_spent ∷ []
 
 abbrev or_before : Option Check → Option Check → Option Check
 or_before None o = o
@@ -49,7 +51,7 @@ module _ (check : ℕ) where
       by None None = either_same (spends check t) None
       by None (Some l) = ap (λ b. cond b None (Some l.told)) (list_any-append (spends check) l.since (t ∷ [])) ∙ spent (list_any (spends check) l.since) (spends check t) l.told
 
-  of_others : (t : Telling) (o : Option Check) → has check_kinds (kind t) ≡ false → or_before (makes_check check t) (cond (spends check t) None o) ≡ o
+  of_others : (t : Telling) (o : Option Check) → has check_kinds (telling_kind t) ≡ false → or_before (makes_check check t) (cond (spends check t) None o) ≡ o
   of_others (telling.check_made m k c keys) o h = cc
   of_others (telling.check_spent k) o h = cc
   of_others _ o h = refl
@@ -61,8 +63,8 @@ module _ (log : List Entry) (e : Entry) (check : ℕ) where
   pub check_of-apart : TellsNone log e check_kinds → check_of (log ++ e ∷ []) check ≡ check_of log check
   unfolding check_of
   check_of-apart apart =
-      untold (λ t. has check_kinds (kind t)) (λ ts. check_in ts check) (λ ts t none. check_in-one check ts t ∙ of_others check t (check_in ts check) none) log e
-      (untold_of (λ t. has check_kinds (kind t)) check_kinds (λ t h. h) (told log) log e apart)
+      untold (λ t. has check_kinds (telling_kind t)) (λ ts. check_in ts check) (λ ts t none. check_in-one check ts t ∙ of_others check t (check_in ts check) none) log e
+      (untold_of (λ t. has check_kinds (telling_kind t)) check_kinds (λ t h. h) (told log) log e apart)
 
   -- a message by a check
   pub check_of-spent : (bytes : List ℕ) (k : ℕ) (priority : Bool) → e.event.act ≡ act.SendChecked bytes k priority → check_of (log ++ e ∷ []) check ≡ cond (check == k) None (check_of log check)

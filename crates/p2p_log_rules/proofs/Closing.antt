@@ -13,13 +13,15 @@ use Rattle.p2p_log_rules.specs.Tellings.{Telling}
 use Rattle.p2p_log_rules.specs.Tellings as telling
 use Rattle.p2p_log_rules.specs.Told.{done_tells, told}
 use Rattle.p2p_log_rules.proofs.Acted.{tells_as, TellsNone, found-append, found-kept, found-apart}
-use Rattle.p2p_log_rules.proofs.Families.{kind, has}
+use Rattle.p2p_log_rules.proofs.TellingKinds.{Kind}
+use Rattle.p2p_log_rules.proofs.TellingKinds as kind
+use Rattle.p2p_log_rules.proofs.Families.{telling_kind, has}
 
 -- what tells of readers
-abbrev pub reader_kinds : List ℕ
-reader_kinds = 46 ∷ []
+abbrev pub reader_kinds : List Kind
+reader_kinds = kind.reader_dropped ∷ []
 
-of_readers : (n c : ℕ) (t : Telling) → has reader_kinds (kind t) ≡ false → drops_reader n c t ≡ false
+of_readers : (n c : ℕ) (t : Telling) → has reader_kinds (telling_kind t) ≡ false → drops_reader n c t ≡ false
 of_readers n c (telling.reader_dropped m d) h = cc
 of_readers n c _ h = refl
 

@@ -17,7 +17,7 @@ use Rattle.p2p_log.specs.declared.entry.Entry.{Entry}
 use Rattle.p2p_log.specs.declared.event.Act.{Act}
 use Rattle.p2p_log.specs.declared.event.Act.TheVariants as act
 use Rattle.p2p_log_rules.specs.declared.row.Half.{Half}
-use Rattle.p2p_log_rules.specs.Connections.{half_over, half_of, half_at, is_done, is_end, tells_some, is_step, is_begun, begins, is_answer, is_answered, has_run, runs, is_over, is_ended, ends_connection, is_running, live_connection, live_half}
+use Rattle.p2p_log_rules.specs.Connections.{half_over, half_of, half_at, is_done, is_end, tells_some, is_step, is_begun, begins_connection, is_answer, is_answered, has_run, runs, is_over, is_ended, ends_connection, is_running, live_connection, live_half}
 use Rattle.p2p_log_rules.specs.Facts.{stops, stops_node, taken, state_from}
 use Rattle.p2p_log_rules.specs.Halves.{half_in, makes_connection}
 use Rattle.p2p_log_rules.specs.Puts.{arrival_link}
@@ -28,7 +28,9 @@ use Rattle.p2p_log_rules.specs.Tellings as telling
 use Rattle.p2p_log_rules.specs.HalfSteps.{puts_ping}
 use Rattle.p2p_log_rules.specs.Told.{half_to_be, messages_stop, arrivals_stop, attempts_in, attempt_stops, handshakes_in, handshake_stops, made_in, connections_in, connection_stops, stop_tells, link_in, half_dropped, listening_dropped, dialing_dropped, when, done_tells, sender_tells, admitted_tells, act_tells, tells, told}
 use Rattle.p2p_log_rules.proofs.Dialed.{dialer_of-longer}
-use Rattle.p2p_log_rules.proofs.Families.{kind, kinds_of, has, are_apart, untold_of}
+use Rattle.p2p_log_rules.proofs.TellingKinds.{Kind}
+use Rattle.p2p_log_rules.proofs.TellingKinds as kind
+use Rattle.p2p_log_rules.proofs.Families.{telling_kind, kinds_of, has, are_apart, untold_of}
 use Rattle.p2p_log_rules.proofs.Spawning.{connections_of-longer}
 use Rattle.p2p_log_rules.proofs.Acted.{tells_as}
 use Rattle.p2p_log_rules.proofs.Channels.{IsStopOf, tells_stop, by_stop}
@@ -40,7 +42,7 @@ told_more : (test : Telling → Bool) (log : List Entry) (e : Entry) → list_an
 told_more test log e = ap (list_any test) (told-append log e) ∙ list_any-append test (told log) (tells (told log) log e)
 
 -- an act that tells none of such things
-untold_some : (test : Telling → Bool) (ks : List ℕ) → ((t : Telling) → has ks (kind t) ≡ false → test t ≡ false) → (log : List Entry) (e : Entry) (a : Act) → e.event.act ≡ a → are_apart (kinds_of a) ks ≡ true → tells_some test log e ≡ false
+untold_some : (test : Telling → Bool) (ks : List Kind) → ((t : Telling) → has ks (telling_kind t) ≡ false → test t ≡ false) → (log : List Entry) (e : Entry) (a : Act) → e.event.act ≡ a → are_apart (kinds_of a) ks ≡ true → tells_some test log e ≡ false
 untold_some test ks of_kinds log e a is apart = untold_of test ks of_kinds (told log) log e (ap (λ b. are_apart (kinds_of b) ks) is ∙ apart)
 
 -- ---- whose step an act is
@@ -71,7 +73,7 @@ sender_is n conn _ h = absurd (false≢true h)
 
 -- it tells of no end of a connection
 abbrev pub EndsNone : Act → Type 0
-EndsNone a = are_apart (kinds_of a) (28 ∷ []) ≡ true
+EndsNone a = are_apart (kinds_of a) (kind.connection_ended ∷ []) ≡ true
 
 -- ---- begun, answered and ended, by that and by the reply
 
@@ -84,12 +86,12 @@ module _ (log : List Entry) (e : Entry) (n conn : ℕ) where
       ap (λ a. list_any test (act_tells (told log) log (length log) e.event.at e.event.seed e.reply (taken log e) e.puts a)) is
       ∙ half_told test 0 0 m c e.reply (half_in (told log) m c) (done_tells e.reply (sender_tells m c e.event.at (taken log e) e.puts)) drops
 
-  step_kinds : (t : Telling) → has (26 ∷ []) (kind t) ≡ false → is_step n conn t ≡ false
+  step_kinds : (t : Telling) → has (kind.half_stepped ∷ []) (telling_kind t) ≡ false → is_step n conn t ≡ false
   step_kinds (telling.half_stepped m c) h = cc
   step_kinds _ h = refl
 
   -- a sending half does a step by such an act where it is one of it, and was done
-  pub begins_act : (a : Act) → e.event.act ≡ a → begins n conn log e ≡ (steps_sender n conn a && is_done e.reply)
+  pub begins_act : (a : Act) → e.event.act ≡ a → begins_connection n conn log e ≡ (steps_sender n conn a && is_done e.reply)
   begins_act (act.SendStep c m) is =
       sent (is_step n conn) (λ link s. refl) c m is
       ∙ (ap (λ b. b || list_any (is_step n conn) (done_tells e.reply (sender_tells m c e.event.at (taken log e) e.puts))) (and_false (is_end e.reply)) ∙ by (is_done e.reply) (list_any is_answer (taken log e)) (puts_ping (taken log e) e.puts))
@@ -104,12 +106,12 @@ module _ (log : List Entry) (e : Entry) (n conn : ℕ) where
       by true false true = or_false it ∙ sym (and_true it)
       by true false false = or_false it ∙ sym (and_true it)
       by false answer ping = sym (and_false it)
-  begins_act a is = untold_some (is_step n conn) (26 ∷ []) step_kinds log e a is refl
+  begins_act a is = untold_some (is_step n conn) (kind.half_stepped ∷ []) step_kinds log e a is refl
 
-  pub begins_is : begins n conn log e ≡ (steps_sender n conn e.event.act && is_done e.reply)
+  pub begins_is : begins_connection n conn log e ≡ (steps_sender n conn e.event.act && is_done e.reply)
   begins_is = begins_act e.event.act refl
 
-  answer_kinds : (t : Telling) → has (40 ∷ []) (kind t) ≡ false → is_answered n conn t ≡ false
+  answer_kinds : (t : Telling) → has (kind.connection_ran ∷ []) (telling_kind t) ≡ false → is_answered n conn t ≡ false
   answer_kinds (telling.connection_ran m c at) h = cc
   answer_kinds _ h = refl
 
@@ -131,13 +133,13 @@ module _ (log : List Entry) (e : Entry) (n conn : ℕ) where
       by true false true = sym (and_false (it && true))
       by true false false = sym (and_false (it && true))
       by false answer ping = sym (ap (λ b. b && answer) (and_false it))
-  runs_act a is = untold_some (is_answered n conn) (40 ∷ []) answer_kinds log e a is refl
+  runs_act a is = untold_some (is_answered n conn) (kind.connection_ran ∷ []) answer_kinds log e a is refl
 
   -- it is answered in a step that is done and takes its router's answer
-  pub runs_is : runs n conn log e ≡ (begins n conn log e && list_any is_answer (taken log e))
+  pub runs_is : runs n conn log e ≡ (begins_connection n conn log e && list_any is_answer (taken log e))
   runs_is = runs_act e.event.act refl ∙ ap (λ b. b && list_any is_answer (taken log e)) (sym begins_is)
 
-  over_kinds : (t : Telling) → has (28 ∷ []) (kind t) ≡ false → is_over n conn t ≡ false
+  over_kinds : (t : Telling) → has (kind.connection_ended ∷ []) (telling_kind t) ≡ false → is_over n conn t ≡ false
   over_kinds (telling.connection_ended m c) h = cc
   over_kinds _ h = refl
 
@@ -172,11 +174,11 @@ module _ (log : List Entry) (e : Entry) (n conn : ℕ) where
   ends_act (act.SendStep c m) is goes_on = ends_half true c m is ∙ ap (λ b. b && is_end e.reply) (sym (or_false ((m == n) && (c == conn))))
   ends_act (act.RecvStep c m) is goes_on = ends_half false c m is
   ends_act (act.Stop by_start m) is goes_on = stops_elsewhere by_start m is goes_on
-  ends_act a is goes_on = untold_some (is_over n conn) (28 ∷ []) over_kinds log e a is refl
+  ends_act a is goes_on = untold_some (is_over n conn) (kind.connection_ended ∷ []) over_kinds log e a is refl
 
   -- an act that tells of no end ends none
   pub ends_untold : (a : Act) → e.event.act ≡ a → EndsNone a → ends_connection n conn log e ≡ false
-  ends_untold a is none = untold_some (is_over n conn) (28 ∷ []) over_kinds log e a is none
+  ends_untold a is none = untold_some (is_over n conn) (kind.connection_ended ∷ []) over_kinds log e a is none
 
   -- nor does one that may not end it
   pub ends_none-act : (a : Act) → e.event.act ≡ a → may_end n conn a ≡ false → ends_connection n conn log e ≡ false
@@ -331,14 +333,14 @@ module _ (log : List Entry) (e : Entry) (n conn : ℕ) where
       here n conn = grind (arith, nat_tests)
 
   -- a step that is done is one of the sending half
-  pub begin_of : begins n conn log e ≡ true → (e.event.act ≡ half_act true conn n) × (is_done e.reply ≡ true)
+  pub begin_of : begins_connection n conn log e ≡ true → (e.event.act ≡ half_act true conn n) × (is_done e.reply ≡ true)
   begin_of h =
       let both = and_parts (steps_sender n conn e.event.act) (is_done e.reply) (sym (begins_is log e n conn) ∙ h) in
       (sender_is n conn e.event.act both.0, both.1)
 
 -- ---- with an entry more
 
-pub is_begun-append : (log : List Entry) (e : Entry) (n conn : ℕ) → is_begun (log ++ e ∷ []) n conn ≡ (is_begun log n conn || begins n conn log e)
+pub is_begun-append : (log : List Entry) (e : Entry) (n conn : ℕ) → is_begun (log ++ e ∷ []) n conn ≡ (is_begun log n conn || begins_connection n conn log e)
 unfolding is_begun
 is_begun-append log e n conn = told_more (is_step n conn) log e
 

@@ -18,16 +18,18 @@ use Rattle.p2p_log_rules.specs.Halves.{dials_link}
 use Rattle.p2p_log_rules.specs.Tellings.{Telling, last_or}
 use Rattle.p2p_log_rules.specs.Tellings as telling
 use Rattle.p2p_log_rules.specs.Told.{done_tells, link_tells, tells, told}
-use Rattle.p2p_log_rules.proofs.Families.{kind, kinds_of, has, are_apart}
+use Rattle.p2p_log_rules.proofs.TellingKinds.{Kind}
+use Rattle.p2p_log_rules.proofs.TellingKinds as kind
+use Rattle.p2p_log_rules.proofs.Families.{telling_kind, kinds_of, has, are_apart}
 use Rattle.p2p_log_rules.proofs.Ignoring.{reads_some, last_or-none, unwrap_named, by_entries}
 use Rattle.p2p_log_rules.proofs.LinkTells.{weaker, tells_act, TellsNone, apart_none, linked_tells}
 use Rattle.p2p_log_rules.proofs.Tellings.{told-append, last_or-append}
 
 -- the kind of tellings by which a link is made
-abbrev pub link_kinds : List ℕ
-link_kinds = 10 ∷ []
+abbrev pub link_kinds : List Kind
+link_kinds = kind.link_opened ∷ []
 
-dial_reads : (k : ℕ) (t : Telling) → has link_kinds (kind t) ≡ false → reads_some (dials_link k) t ≡ false
+dial_reads : (k : ℕ) (t : Telling) → has link_kinds (telling_kind t) ≡ false → reads_some (dials_link k) t ≡ false
 dial_reads k (telling.link_opened m j link to) h = cc
 dial_reads k _ h = refl
 
@@ -39,7 +41,7 @@ module _ (log : List Entry) (e : Entry) where
   pub dialer_of-kept : TellsNone (told log) log e link_kinds → (k : ℕ) → dialer_of (log ++ e ∷ []) k ≡ dialer_of log k
   dialer_of-kept none k =
       dialer_of-append k
-      ∙ last_or-none (dialer_of log k) (dials_link k) (tells (told log) log e) (weaker (λ t. has link_kinds (kind t)) (reads_some (dials_link k)) (dial_reads k) (tells (told log) log e) none)
+      ∙ last_or-none (dialer_of log k) (dials_link k) (tells (told log) log e) (weaker (λ t. has link_kinds (telling_kind t)) (reads_some (dials_link k)) (dial_reads k) (tells (told log) log e) none)
 
   -- one that makes a link is the name of one more
   pub dialer_of-linked : (d m to : ℕ) (from : SocketAddr) (one two : Queue × Item) (rest : List (Queue × Item)) → e.event.act ≡ act.Connect d from m to → e.reply ≡ reply.Ok → e.puts ≡ one ∷ two ∷ rest

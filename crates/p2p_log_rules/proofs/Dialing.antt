@@ -18,7 +18,9 @@ use Rattle.p2p_log_rules.specs.Facts.{starts, is_stopped, taken}
 use Rattle.p2p_log_rules.specs.Tellings.{Telling, Last, last_told, last_or}
 use Rattle.p2p_log_rules.specs.Tellings as telling
 use Rattle.p2p_log_rules.specs.Told.{asks_list, answer_tells, ask_tells, act_tells, tells, told}
-use Rattle.p2p_log_rules.proofs.Families.{kind, kinds_of, has, are_apart, untold_act, untold_of}
+use Rattle.p2p_log_rules.proofs.TellingKinds.{Kind}
+use Rattle.p2p_log_rules.proofs.TellingKinds as kind
+use Rattle.p2p_log_rules.proofs.Families.{telling_kind, kinds_of, has, are_apart, untold_act, untold_of}
 use Rattle.p2p_log_rules.proofs.Told.{quiet_act}
 use Rattle.p2p_log_rules.proofs.Channels.{unless_is}
 use Rattle.p2p_log_rules.proofs.Tellings.{told-append, or_left, or_right, last_or-append, with_last, last_told-one}
@@ -119,10 +121,10 @@ dials_by n _ = false
 
 -- ---- the kinds that tell of it
 
-abbrev pub dialer_kinds : List ℕ
-dialer_kinds = 0 ∷ 2 ∷ 3 ∷ 4 ∷ 5 ∷ 6 ∷ []
+abbrev pub dialer_kinds : List Kind
+dialer_kinds = kind.node_started ∷ kind.list_asked ∷ kind.list_taken ∷ kind.answer_taken ∷ kind.dial_asked ∷ kind.dial_due ∷ []
 
-of_kinds : (pace : Pace) (n : ℕ) (t : Telling) → has dialer_kinds (kind t) ≡ false → of_dialer pace n t ≡ false
+of_kinds : (pace : Pace) (n : ℕ) (t : Telling) → has dialer_kinds (telling_kind t) ≡ false → of_dialer pace n t ≡ false
 of_kinds pace n (telling.node_started m at) h = cc
 of_kinds pace n (telling.list_asked m at) h = cc
 of_kinds pace n (telling.list_taken m asked seed next peers) h = cc

@@ -29,7 +29,8 @@ use Rattle.p2p_log_rules.specs.Spawning.{connections_of}
 use Rattle.p2p_log_rules.specs.Tellings.{Telling}
 use Rattle.p2p_log_rules.specs.Tellings as telling
 use Rattle.p2p_log_rules.specs.Told.{listening_dropped, received_tells, admitted_tells, judged_tells, heard_tells, when, done_tells, link_in, dialing_dropped, half_dropped, over_tells, sender_tells, handshake_tells, admitted_as, begun_tells, arrival_tells, gates_tell, took_tells, left_tells, act_tells, tells, told}
-use Rattle.p2p_log_rules.proofs.Families.{kind, kinds_of, has, are_apart, untold_of}
+use Rattle.p2p_log_rules.proofs.TellingKinds as kind
+use Rattle.p2p_log_rules.proofs.Families.{telling_kind, kinds_of, has, are_apart, untold_of}
 use Rattle.p2p_log_rules.proofs.Tellings.{told-append}
 
 -- whether an end is told of
@@ -203,11 +204,11 @@ none_dropped (_ ∷ ts) h = none_dropped ts h
 
 -- whether an act drops no end, whatever it comes to
 abbrev pub drops_none : Act → Bool
-drops_none a = are_apart (kinds_of a) (14 ∷ [])
+drops_none a = are_apart (kinds_of a) (kind.end_dropped ∷ [])
 
-of_kinds : (t : Telling) → has (14 ∷ []) (kind t) ≡ false → is_drop t ≡ false
+of_kinds : (t : Telling) → has (kind.end_dropped ∷ []) (telling_kind t) ≡ false → is_drop t ≡ false
 of_kinds (telling.end_dropped link s) h = cc
 of_kinds _ h = refl
 
 pub drops_of-none : (log : List Entry) (e : Entry) → drops_none e.event.act ≡ true → drops_of log e ≡ []
-drops_of-none log e h = none_dropped (tells (told log) log e) (untold_of is_drop (14 ∷ []) of_kinds (told log) log e h)
+drops_of-none log e h = none_dropped (tells (told log) log e) (untold_of is_drop (kind.end_dropped ∷ []) of_kinds (told log) log e h)

@@ -24,7 +24,7 @@ pub record OfKinds (n : ℕ) (P : Queue → Type 0) : Type 0 where
   pub tracker : P (queue.Tracker n)
   pub spawner : P (queue.Spawner n)
   pub arrivals : P (queue.Arrivals n)
-  pub update : P (queue.Update n)
+  pub update : P (queue.Addresses n)
   pub dialer : P (queue.Dialer n)
   pub attempt : (k : ℕ) → P (queue.Attempt n k)
   pub handshake : (h : ℕ) → P (queue.Handshake n h)
@@ -32,7 +32,7 @@ pub record OfKinds (n : ℕ) (P : Queue → Type 0) : Type 0 where
   pub low : (conn : ℕ) → P (queue.Low n conn)
   pub held : (conn : ℕ) → P (queue.Held n conn)
   pub control : (conn : ℕ) → P (queue.Control n conn)
-  pub ready : (conn : ℕ) → P (queue.Ready n conn)
+  pub ready : (conn : ℕ) → P (queue.RouterAnswer n conn)
   pub link : (l : ℕ) (s : Side) → P (queue.Link l s)
 
 module _ (log : List Entry) (n : ℕ) (P : Queue → Type 0) (kinds : OfKinds n P) where

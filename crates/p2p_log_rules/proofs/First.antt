@@ -22,12 +22,12 @@ use Rattle.p2p_log_rules.specs.Attempting.{Attempt, dial_rules_at, attempts_of, 
 use Rattle.p2p_log_rules.specs.Connections.{live_half, is_begun, is_running}
 use Rattle.p2p_log_rules.specs.Dialing.{Dials, dials_of, due_row, dialer_turn, dialer_row}
 use Rattle.p2p_log_rules.specs.Cutting.{is_broken}
-use Rattle.p2p_log_rules.specs.Dropping.{LinkEnd, other_side, dropping, dialing_end, arriving_end}
+use Rattle.p2p_log_rules.specs.Dropping.{LinkEnd, other_side, dropping, attempt_drops, attempt_step_row, handshake_drops, handshake_step_row, listener_drops, listener_step_row}
 use Rattle.p2p_log_rules.specs.Effect.{route_oldest, router_row, batch_size_at, batch, written_row, half_row, sender_row, send_step_row, retry_row, held_row, receiving_row, recv_step_row, row}
 use Rattle.p2p_log_rules.specs.Effect as effect
 use Rattle.p2p_log_rules.specs.Ending.{end_row}
 use Rattle.p2p_log_rules.specs.Facts.{channels, capacity_in, is_up}
-use Rattle.p2p_log_rules.specs.First.{Actor, tracker, router, spawner, dialer, listener, attempt, handshake, sender, receiver, actor_of, Input, takes, due, begins, fault, first_of, ready, oldest_of, only_where, attempt_due, is_admitted, link_inputs, held_inputs, stands, has_half, by_input}
+use Rattle.p2p_log_rules.specs.First.{Actor, tracker, router, spawner, dialer, listener, attempt, handshake, sender, receiver, actor_of, Input, takes, due, begins, fault, first_of, ready, oldest_of, only_where, attempt_due, is_admitted, link_inputs, held_inputs, stands, has_half, acts, first_input, by_input, step_row}
 use Rattle.p2p_log_rules.specs.Handshakes.{is_handshaking, is_finished, peer_at}
 use Rattle.p2p_log_rules.specs.Handshaking.{handshake_deadline, is_due, handshake_turn, handshake_row}
 use Rattle.p2p_log_rules.specs.Listening.{gate_rules_at, known_of, has_place, listener_turn, listener_row}
@@ -90,19 +90,20 @@ module _ (configs : List Config) (log : List Entry) (at seed n : ℕ) where
       by true d [] = turn d (not d.is_asking && nat_le d.deadline at)
       by true d (x ∷ xs) = refl
 
-  pub listener_row-first : listener_row configs log n at ≡ actor_row configs log at seed (listener n)
-  listener_row-first = by (is_up log n) (line log (queue.Update n)) (line log (queue.Arrivals n))
+  listener_turn-first : listener_row configs log n at ≡ step_row configs log at (listener n) (listener_serves configs log n at)
+  listener_turn-first = by (is_up log n) (line log (queue.Addresses n)) (line log (queue.Arrivals n))
     where
       by : (up : Bool) (us xs : List Envelope)
           → cond up (listener_turn (gate_rules_at configs n) (known_of configs log n) (has_place configs log n) n (length log) at us xs) (only reply.Gone)
-          ≡ cond up (by_input (listener_serves configs log n at) (first_of (oldest_of (queue.Update n) us ∷ oldest_of (queue.Arrivals n) xs ∷ []))) (only reply.Gone)
+          ≡ cond up (by_input (listener_serves configs log n at) (first_of (oldest_of (queue.Addresses n) us ∷ oldest_of (queue.Arrivals n) xs ∷ []))) (only reply.Gone)
       by false us xs = refl
       by true [] [] = refl
       by true [] (x ∷ xs) = refl
       by true (u ∷ us) xs = refl
 
-  pub attempt_row-first : (k : ℕ) → attempt_row configs log k n at seed ≡ actor_row configs log at seed (attempt n k)
-  attempt_row-first k = by (is_spawner_full configs log n) (dial_rules_at configs n).private (attempts_of configs log n k) (line log (queue.Attempt n k))
+  attempt_turn-first : (k : ℕ) → attempt_row configs log k n at seed
+      ≡ step_row configs log at (attempt n k) (attempt_serves n (is_spawner_full configs log n) (dial_rules_at configs n).private seed (attempts_of configs log n k))
+  attempt_turn-first k = by (is_spawner_full configs log n) (dial_rules_at configs n).private (attempts_of configs log n k) (line log (queue.Attempt n k))
     where
       turn : (full private : Bool) (a : Attempt) (b : Bool)
           → cond b (given_up_row n a.key [] []) (only reply.Idle) ≡ by_input (attempt_serves n full private seed (Some a)) (first_of (ready b due ∷ []))
@@ -115,8 +116,9 @@ module _ (configs : List Config) (log : List Entry) (at seed n : ℕ) where
       by full private (Some a) [] = turn full private a (nat_le a.deadline at)
       by full private (Some a) (x ∷ xs) = refl
 
-  pub handshake_row-first : (h : ℕ) → handshake_row configs log h n at ≡ actor_row configs log at seed (handshake n h)
-  handshake_row-first h =
+  handshake_turn-first : (h : ℕ) → handshake_row configs log h n at
+      ≡ step_row configs log at (handshake n h) (handshake_serves n (is_spawner_full configs log n) h (peer_at log h))
+  handshake_turn-first h =
       by (is_spawner_full configs log n) (is_handshaking log n h) (is_due (handshake_deadline configs log h n) at (is_finished log n h)) (line log (queue.Handshake n h))
     where
       by : (full runs b : Bool) (xs : List Envelope) → cond runs (handshake_turn n full b h (peer_at log h) xs) (only reply.Gone)
@@ -125,6 +127,33 @@ module _ (configs : List Config) (log : List Entry) (at seed n : ℕ) where
       by full true true [] = refl
       by full true false [] = refl
       by full true b (x ∷ xs) = refl
+
+-- ---- with the end of a link of which a step lets go
+
+-- a step that is gone or idle lets go of nothing
+drops_first : (drops : Row → Row) → drops (only reply.Idle) ≡ only reply.Idle → drops (only reply.Gone) ≡ only reply.Gone → (b : Bool) (serve : Input → Row) (o : Option Input)
+    → drops (cond b (by_input serve o) (only reply.Gone)) ≡ cond b (by_input (λ i. drops (serve i)) o) (only reply.Gone)
+drops_first drops idle gone false serve o = gone
+drops_first drops idle gone true serve None = idle
+drops_first drops idle gone true serve (Some i) = refl
+
+module _ (configs : List Config) (log : List Entry) (at seed n : ℕ) where
+  pub listener_row-first : listener_step_row configs log n at ≡ actor_row configs log at seed (listener n)
+  listener_row-first =
+      ap (listener_drops log n) (listener_turn-first configs log at seed n)
+      ∙ drops_first (listener_drops log n) refl refl (acts configs log (listener n)) (listener_serves configs log n at) (first_input configs log at (listener n))
+
+  pub attempt_row-first : (k : ℕ) → attempt_step_row configs log k n at seed ≡ actor_row configs log at seed (attempt n k)
+  attempt_row-first k =
+      ap (attempt_drops log k n) (attempt_turn-first configs log at seed n k)
+      ∙ drops_first (attempt_drops log k n) refl refl (acts configs log (attempt n k))
+      (attempt_serves n (is_spawner_full configs log n) (dial_rules_at configs n).private seed (attempts_of configs log n k)) (first_input configs log at (attempt n k))
+
+  pub handshake_row-first : (h : ℕ) → handshake_step_row configs log h n at ≡ actor_row configs log at seed (handshake n h)
+  handshake_row-first h =
+      let drops : Row → Row = handshake_drops log (peer_at log h).link (line log (queue.Handshake n h)) in
+      ap drops (handshake_turn-first configs log at seed n h)
+      ∙ drops_first drops refl refl (acts configs log (handshake n h)) (handshake_serves n (is_spawner_full configs log n) h (peer_at log h)) (first_input configs log at (handshake n h))
 
 -- ---- the halves of a connection
 
@@ -204,17 +233,17 @@ module _ (configs : List Config) (log : List Entry) (at seed n conn : ℕ) where
           ∷ oldest_of (queue.High n conn) (line log (queue.High n conn))
           ∷ oldest_of (queue.Low n conn) (line log (queue.Low n conn))
           ∷ []))
-          (oldest_of (queue.Ready n conn) (line log (queue.Ready n conn)) ∷ []))
+          (oldest_of (queue.RouterAnswer n conn) (line log (queue.RouterAnswer n conn)) ∷ []))
           (Some begins ∷ [])
 
-      answered : (half : Half) (xs : List Envelope) → takes_oldest xs ≡ by_input (sender_serves configs log n conn (Some half)) (first_of (oldest_of (queue.Ready n conn) xs ∷ []))
+      answered : (half : Half) (xs : List Envelope) → takes_oldest xs ≡ by_input (sender_serves configs log n conn (Some half)) (first_of (oldest_of (queue.RouterAnswer n conn) xs ∷ []))
       answered half [] = refl
       answered half (x ∷ xs) = refl
 
       of_half : (half : Half) (begun running : Bool) → half_row configs log n conn at half begun running
           ≡ by_input (sender_serves configs log n conn (Some half)) (first_of (asked begun running))
       of_half half false running = refl
-      of_half half true false = answered half (line log (queue.Ready n conn))
+      of_half half true false = answered half (line log (queue.RouterAnswer n conn))
       of_half half true true = runs half (ping_is_due configs log n conn at)
 
       by : (up : Bool) (o : Option Half) → cond up (sender_row configs log n conn at o) (only reply.Gone)
@@ -235,7 +264,7 @@ module _ (configs : List Config) (log : List Entry) (at seed n conn : ℕ) where
       by None b h = refl
       by (Some capacity) true h = cc
       by (Some capacity) false h = refl
-  retry_refused half name item.Ping h = ap (λ b. cond b (effect.pass_row name) (only reply.Idle)) h
+  retry_refused half name item.Ping h = ap (λ b. cond b (effect.taken_row name) (only reply.Idle)) h
   retry_refused half name _ h = refl
 
   pub receiver_row-first : recv_step_row configs log conn n at ≡ actor_row configs log at seed (receiver n conn)
@@ -281,40 +310,28 @@ module _ (configs : List Config) (log : List Entry) (at seed n conn : ℕ) where
       by false o = refl
       by true (Some half) = runs_on half (is_running log n conn)
 
--- ---- the reply of a step
+-- ---- all of them
 
 pub dropping-reply : (log : List Entry) (o : Option LinkEnd) (r : Row) → (dropping log o r).reply ≡ r.reply
 dropping-reply log None r = refl
 dropping-reply log (Some e) r = refl
 
--- the reply of an actor's step is that of what it makes of its first input
-pub row_reply-first : (configs : List Config) (log : List Entry) (at seed : ℕ) (a : Act) (x : Actor) → actor_of a ≡ Some x
-    → (row configs log at seed a).reply ≡ (actor_row configs log at seed x).reply
+-- the row of an actor's step is what it makes of its first input
+pub row-first : (configs : List Config) (log : List Entry) (at seed : ℕ) (a : Act) (x : Actor) → actor_of a ≡ Some x → row configs log at seed a ≡ actor_row configs log at seed x
 unfolding row
-row_reply-first configs log at seed a x is = by a is
+row-first configs log at seed a x is = by a is
   where
-    of : (y : Actor) → Some y ≡ Some x → (actor_row configs log at seed y).reply ≡ (actor_row configs log at seed x).reply
-    of y same = ap (λ (z : Actor). (actor_row configs log at seed z).reply) (same_Some y x same)
+    of : (y : Actor) → Some y ≡ Some x → actor_row configs log at seed y ≡ actor_row configs log at seed x
+    of y same = ap (actor_row configs log at seed) (same_Some y x same)
 
-    reply_of : (r s : Row) → r ≡ s → r.reply ≡ s.reply
-    reply_of r s h = ap (λ (q : Row). q.reply) h
-
-    by : (a : Act) → actor_of a ≡ Some x → (row configs log at seed a).reply ≡ (actor_row configs log at seed x).reply
-    by (act.Tracker n) h = reply_of (tracker_row configs log n at) (actor_row configs log at seed (tracker n)) (tracker_row-first configs log at seed n) ∙ of (tracker n) h
-    by (act.Router n) h = reply_of (router_row configs log n) (actor_row configs log at seed (router n)) (router_row-first configs log at seed n) ∙ of (router n) h
-    by (act.Spawner n) h = reply_of (spawner_row log n) (actor_row configs log at seed (spawner n)) (spawner_row-first configs log at seed n) ∙ of (spawner n) h
-    by (act.Dialer n) h = reply_of (dialer_row configs log n at seed) (actor_row configs log at seed (dialer n)) (dialer_row-first configs log at seed n) ∙ of (dialer n) h
-    by (act.Listener n) h =
-        let r : Row = listener_row configs log n at in
-        dropping-reply log (cond (turns_away r.reply) (arriving_end log n) None) r
-        ∙ (reply_of r (actor_row configs log at seed (listener n)) (listener_row-first configs log at seed n) ∙ of (listener n) h)
-    by (act.Attempt k n) h =
-        dropping-reply log (cond (gave_up (attempt_row configs log k n at seed).puts) (dialing_end log n k) None) (attempt_row configs log k n at seed)
-        ∙ (reply_of (attempt_row configs log k n at seed) (actor_row configs log at seed (attempt n k)) (attempt_row-first configs log at seed n k) ∙ of (attempt n k) h)
-    by (act.Handshake k n) h =
-        let r : Row = handshake_row configs log k n at in
-        dropping-reply log (cond (broke_off r.reply (map (λ x. x.item) (take 1 (line log (queue.Handshake n k)))) r.puts) (Some ((peer_at log k).link, side.In)) None) r
-        ∙ (reply_of r (actor_row configs log at seed (handshake n k)) (handshake_row-first configs log at seed n k) ∙ of (handshake n k) h)
-    by (act.SendStep conn n) h = reply_of (send_step_row configs log conn n at) (actor_row configs log at seed (sender n conn)) (sender_row-first configs log at seed n conn) ∙ of (sender n conn) h
-    by (act.RecvStep conn n) h = reply_of (recv_step_row configs log conn n at) (actor_row configs log at seed (receiver n conn)) (receiver_row-first configs log at seed n conn) ∙ of (receiver n conn) h
+    by : (a : Act) → actor_of a ≡ Some x → row configs log at seed a ≡ actor_row configs log at seed x
+    by (act.Tracker n) h = tracker_row-first configs log at seed n ∙ of (tracker n) h
+    by (act.Router n) h = router_row-first configs log at seed n ∙ of (router n) h
+    by (act.Spawner n) h = spawner_row-first configs log at seed n ∙ of (spawner n) h
+    by (act.Dialer n) h = dialer_row-first configs log at seed n ∙ of (dialer n) h
+    by (act.Listener n) h = listener_row-first configs log at seed n ∙ of (listener n) h
+    by (act.Attempt k n) h = attempt_row-first configs log at seed n k ∙ of (attempt n k) h
+    by (act.Handshake k n) h = handshake_row-first configs log at seed n k ∙ of (handshake n k) h
+    by (act.SendStep conn n) h = sender_row-first configs log at seed n conn ∙ of (sender n conn) h
+    by (act.RecvStep conn n) h = receiver_row-first configs log at seed n conn ∙ of (receiver n conn) h
     by _ h = absurd (cc)

@@ -15,16 +15,18 @@ use Rattle.p2p_log_rules.specs.Puts.{broke_off}
 use Rattle.p2p_log_rules.specs.Tellings.{Telling, any_or}
 use Rattle.p2p_log_rules.specs.Tellings as telling
 use Rattle.p2p_log_rules.specs.Told.{when, handshake_tells, tells, told}
-use Rattle.p2p_log_rules.proofs.Families.{kind, kinds_of, has, are_apart, untold_of}
+use Rattle.p2p_log_rules.proofs.TellingKinds.{Kind}
+use Rattle.p2p_log_rules.proofs.TellingKinds as kind
+use Rattle.p2p_log_rules.proofs.Families.{telling_kind, kinds_of, has, are_apart, untold_of}
 use Rattle.p2p_log_rules.proofs.Ignoring.{any_or-none}
 use Rattle.p2p_log_rules.proofs.LinkTells.{tells_act, quiet_told}
 use Rattle.p2p_log_rules.proofs.Tellings.{told-append, any_or-append}
 
 -- the kind of tellings of what they took
-abbrev pub taking_kinds : List ℕ
-taking_kinds = 24 ∷ []
+abbrev pub taking_kinds : List Kind
+taking_kinds = kind.handshake_took ∷ []
 
-taking_reads : (test : List Item → Bool) (n name : ℕ) (t : Telling) → has taking_kinds (kind t) ≡ false → takes_such test n name t ≡ false
+taking_reads : (test : List Item → Bool) (n name : ℕ) (t : Telling) → has taking_kinds (telling_kind t) ≡ false → takes_such test n name t ≡ false
 taking_reads test n name (telling.handshake_took m h items) is = cc
 taking_reads test n name _ is = refl
 

@@ -23,7 +23,9 @@ use Rattle.p2p_log_rules.specs.Tellings as telling
 use Rattle.p2p_log_rules.specs.Told.{when, admitted_as, begun_tells, arrival_tells, handshake_tells, gates_tell, heard_tells, stop_tells, tells, told}
 use Rattle.p2p_log.proofs.Each.{Each-from_has}
 use Rattle.p2p_log_rules.proofs.Channels.{IsStopOf, tells_stop, by_stop}
-use Rattle.p2p_log_rules.proofs.Families.{kind, kinds_of, has, are_apart, untold_of}
+use Rattle.p2p_log_rules.proofs.TellingKinds.{Kind}
+use Rattle.p2p_log_rules.proofs.TellingKinds as kind
+use Rattle.p2p_log_rules.proofs.Families.{telling_kind, kinds_of, has, are_apart, untold_of}
 use Rattle.p2p_log_rules.proofs.Ignoring.{by_entries}
 use Rattle.p2p_log_rules.proofs.LinkTells.{tells_act, quiet_told}
 use Rattle.p2p_log_rules.proofs.Standing.{started, stood_after, stood_told, standing-more, stood_append, same_filter, same_stood, others_stood, all_stopped}
@@ -38,8 +40,8 @@ without_name name names = filter (λ k. not (k == name)) names
 -- ---- one entry more
 
 -- the kinds of tellings by which a handshake begins and ends
-abbrev pub handshake_kinds : List ℕ
-handshake_kinds = 23 ∷ 25 ∷ []
+abbrev pub handshake_kinds : List Kind
+handshake_kinds = kind.handshake_begun ∷ kind.handshake_ended ∷ []
 
 -- a telling of the beginning or the end of a handshake of a node
 abbrev pub of_handshakes : ℕ → Telling → Bool
@@ -47,7 +49,7 @@ of_handshakes n (telling.handshake_begun m h) = m == n
 of_handshakes n (telling.handshake_ended m h link) = m == n
 of_handshakes n _ = false
 
-handshake_reads : (n : ℕ) (t : Telling) → has handshake_kinds (kind t) ≡ false → of_handshakes n t ≡ false
+handshake_reads : (n : ℕ) (t : Telling) → has handshake_kinds (telling_kind t) ≡ false → of_handshakes n t ≡ false
 handshake_reads n (telling.handshake_begun m h) is = cc
 handshake_reads n (telling.handshake_ended m h link) is = cc
 handshake_reads n _ is = refl

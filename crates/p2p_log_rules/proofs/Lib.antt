@@ -23,6 +23,7 @@ pub mod Handshakes
 pub mod Ignoring
 pub mod Lawful
 pub mod Left
+pub mod TellingKinds
 pub mod LinkTells
 pub mod Links
 pub mod Listening

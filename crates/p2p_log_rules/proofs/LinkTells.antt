@@ -13,7 +13,8 @@ use Rattle.p2p_log_rules.specs.Taking.{taken}
 use Rattle.p2p_log_rules.specs.Tellings.{Telling}
 use Rattle.p2p_log_rules.specs.Tellings as telling
 use Rattle.p2p_log_rules.specs.Told.{done_tells, link_tells, act_tells, tells}
-use Rattle.p2p_log_rules.proofs.Families.{kind, kinds_of, has, are_apart, untold_of}
+use Rattle.p2p_log_rules.proofs.TellingKinds.{Kind}
+use Rattle.p2p_log_rules.proofs.Families.{telling_kind, kinds_of, has, are_apart, untold_of}
 use Rattle.p2p_log_rules.proofs.Tellings.{or_left, or_right}
 use Rattle.p2p_log_rules.proofs.Told.{NoneTold, quiet_act}
 
@@ -36,12 +37,12 @@ module _ (ts : List Telling) (log : List Entry) (e : Entry) where
   quiet_told about a acts none = ap (list_any about) (tells_act a acts) ∙ quiet_act about (length log) e.event.at ts log e.event.seed e.reply (taken log e) e.puts a none
 
   -- it tells nothing of these kinds
-  abbrev pub TellsNone : List ℕ → Type 0
-  TellsNone ks = list_any (λ t. has ks (kind t)) (tells ts log e) ≡ false
+  abbrev pub TellsNone : List Kind → Type 0
+  TellsNone ks = list_any (λ t. has ks (telling_kind t)) (tells ts log e) ≡ false
 
   -- as where its act tells of others
-  pub apart_none : (ks : List ℕ) → are_apart (kinds_of e.event.act) ks ≡ true → TellsNone ks
-  apart_none ks apart = untold_of (λ t. has ks (kind t)) ks (λ t h. h) ts log e apart
+  pub apart_none : (ks : List Kind) → are_apart (kinds_of e.event.act) ks ≡ true → TellsNone ks
+  apart_none ks apart = untold_of (λ t. has ks (telling_kind t)) ks (λ t h. h) ts log e apart
 
   -- a dial that was answered with a link
   pub linked_tells : (d m to : ℕ) (from : SocketAddr) (told arrival : Queue × Item) (rest : List (Queue × Item)) → e.event.act ≡ act.Connect d from m to → e.reply ≡ reply.Ok → e.puts ≡ told ∷ arrival ∷ rest

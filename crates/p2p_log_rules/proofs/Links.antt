@@ -29,7 +29,9 @@ use Rattle.p2p_log_rules.specs.Tellings.{Telling, last_or}
 use Rattle.p2p_log_rules.specs.Tellings as telling
 use Rattle.p2p_log_rules.specs.Told.{messages_stop, arrivals_stop, attempts_in, attempt_stops, handshakes_in, handshake_stops, connections_in, connection_stops, when, done_tells, link_tells, admitted_as, begun_tells, arrival_tells, handshake_tells, gates_tell, heard_tells, tells, told}
 use Rattle.p2p_log_rules.proofs.Channels.{IsStopOf, tells_stop, by_stop}
-use Rattle.p2p_log_rules.proofs.Families.{kind, kinds_of, has, are_apart}
+use Rattle.p2p_log_rules.proofs.TellingKinds.{Kind}
+use Rattle.p2p_log_rules.proofs.TellingKinds as kind
+use Rattle.p2p_log_rules.proofs.Families.{telling_kind, kinds_of, has, are_apart}
 use Rattle.p2p_log_rules.proofs.Ignoring.{reads_some, last_or-none, unwrap_named, unwrap_at, by_entries}
 use Rattle.p2p_log_rules.proofs.LinkTells.{weaker, told_of, quiet_told, tells_act, TellsNone, apart_none, linked_tells, finished_tells}
 use Rattle.p2p_log_rules.proofs.Tellings.{told-append, last_or-append, append_quiet, or_left, or_right}
@@ -38,10 +40,10 @@ use Rattle.p2p_log_rules.proofs.Told.{begun_quiet, gates_quiet, heard_quiet, sto
 -- ---- between whom keys are exchanged
 
 -- the kinds of tellings by which such an exchange begins and ends
-abbrev pub exchange_kinds : List ℕ
-exchange_kinds = 10 ∷ 21 ∷ []
+abbrev pub exchange_kinds : List Kind
+exchange_kinds = kind.link_opened ∷ kind.exchange_ended ∷ []
 
-exchange_reads : (k : ℕ) (t : Telling) → has exchange_kinds (kind t) ≡ false → reads_some (opens_exchange k) t ≡ false
+exchange_reads : (k : ℕ) (t : Telling) → has exchange_kinds (telling_kind t) ≡ false → reads_some (opens_exchange k) t ≡ false
 exchange_reads k (telling.link_opened m j link to) h = cc
 exchange_reads k (telling.exchange_ended link) h = cc
 exchange_reads k _ h = refl
@@ -56,7 +58,7 @@ module _ (log : List Entry) (e : Entry) where
   openings_of-kept none k =
       openings_of-append k
       ∙ last_or-none (openings_of log k) (opens_exchange k) (tells (told log) log e)
-      (weaker (λ t. has exchange_kinds (kind t)) (reads_some (opens_exchange k)) (exchange_reads k) (tells (told log) log e) none)
+      (weaker (λ t. has exchange_kinds (telling_kind t)) (reads_some (opens_exchange k)) (exchange_reads k) (tells (told log) log e) none)
 
   -- a dial that was answered with a link begins one over that
   pub openings_of-linked : (d m to : ℕ) (from : SocketAddr) (one two : Queue × Item) (rest : List (Queue × Item)) → e.event.act ≡ act.Connect d from m to → e.reply ≡ reply.Ok → e.puts ≡ one ∷ two ∷ rest
@@ -171,10 +173,10 @@ openings_of-closed log e k other closed = by (openings_of (log ++ e ∷ []) k) r
 -- ---- what has their listening ends
 
 -- the kinds of tellings that change it
-abbrev pub listening_kinds : List ℕ
-listening_kinds = 1 ∷ 10 ∷ 22 ∷ 25 ∷ []
+abbrev pub listening_kinds : List Kind
+listening_kinds = kind.node_stopped ∷ kind.link_opened ∷ kind.arrival_taken ∷ kind.handshake_ended ∷ []
 
-listening_reads : (n k : ℕ) (t : Telling) → has listening_kinds (kind t) ≡ false → reads_some (has_listening n k) t ≡ false
+listening_reads : (n k : ℕ) (t : Telling) → has listening_kinds (telling_kind t) ≡ false → reads_some (has_listening n k) t ≡ false
 listening_reads n k (telling.link_opened m j link to) h = cc
 listening_reads n k (telling.arrival_taken m link handshake) h = cc
 listening_reads n k (telling.handshake_ended m h link) is = cc
@@ -214,7 +216,7 @@ module _ (log : List Entry) (e : Entry) (n : ℕ) where
   -- as where its act tells of others
   pub listening_ends_of-apart : are_apart (kinds_of e.event.act) listening_kinds ≡ true → (k : ℕ) → listening_ends_of (log ++ e ∷ []) n k ≡ listening_ends_of log n k
   listening_ends_of-apart apart k =
-      listening_ends_of-kept k (weaker (λ t. has listening_kinds (kind t)) (reads_some (has_listening n k)) (listening_reads n k) (tells (told log) log e) (apart_none (told log) log e listening_kinds apart))
+      listening_ends_of-kept k (weaker (λ t. has listening_kinds (telling_kind t)) (reads_some (has_listening n k)) (listening_reads n k) (tells (told log) log e) (apart_none (told log) log e listening_kinds apart))
 
   -- a peer arrives over a link that is made
   pub listening_ends_of-linked : (d m to : ℕ) (from : SocketAddr) (one two : Queue × Item) (rest : List (Queue × Item)) → e.event.act ≡ act.Connect d from m to → e.reply ≡ reply.Ok → e.puts ≡ one ∷ two ∷ rest
@@ -228,9 +230,9 @@ module _ (log : List Entry) (e : Entry) (n : ℕ) where
   listening_ends_of-unlinked d m to from acts none k =
       listening_ends_of-append k
       ∙ (ap (last_or (ends k) (has_listening n k)) (tells_act (told log) log e (act.Connect d from m to) acts)
-      ∙ by e.reply e.puts (sym (ap (list_any (λ t. has exchange_kinds (kind t))) (tells_act (told log) log e (act.Connect d from m to) acts)) ∙ none))
+      ∙ by e.reply e.puts (sym (ap (list_any (λ t. has exchange_kinds (telling_kind t))) (tells_act (told log) log e (act.Connect d from m to) acts)) ∙ none))
     where
-      by : (r : Reply) (puts : List (Queue × Item)) → list_any (λ t. has exchange_kinds (kind t)) (done_tells r (telling.dial_answered m d (length log) ∷ link_tells m d (length log) to puts)) ≡ false
+      by : (r : Reply) (puts : List (Queue × Item)) → list_any (λ t. has exchange_kinds (telling_kind t)) (done_tells r (telling.dial_answered m d (length log) ∷ link_tells m d (length log) to puts)) ≡ false
           → last_or (ends k) (has_listening n k) (done_tells r (telling.dial_answered m d (length log) ∷ link_tells m d (length log) to puts)) ≡ ends k
       by reply.Ok (one ∷ two ∷ rest) h = cc
       by reply.Ok (one ∷ []) h = refl

@@ -30,7 +30,9 @@ use Rattle.p2p_log_rules.specs.Tellings.{Telling, last_or}
 use Rattle.p2p_log_rules.specs.Tellings as telling
 use Rattle.p2p_log_rules.specs.Told.{admitted_as, begun_tells, arrival_tells, judged_tells, heard_tells, gates_tell, act_tells, tells, told_by, told}
 use Rattle.p2p_log_rules.proofs.Facts.{events_of-append}
-use Rattle.p2p_log_rules.proofs.Families.{kind, kinds_of, has, are_apart, untold_of}
+use Rattle.p2p_log_rules.proofs.TellingKinds.{Kind}
+use Rattle.p2p_log_rules.proofs.TellingKinds as kind
+use Rattle.p2p_log_rules.proofs.Families.{telling_kind, kinds_of, has, are_apart, untold_of}
 use Rattle.p2p_log_rules.proofs.Others.{none_listed, last_kept}
 use Rattle.p2p_log_rules.proofs.LinkTells.{tells_act}
 use Rattle.p2p_log_rules.proofs.Told.{listener_quiet}
@@ -39,8 +41,8 @@ use Rattle.p2p_log_rules.proofs.Tellings.{told-append, last_or-append, append_qu
 -- ---- after more tellings
 
 -- the kinds of tellings of what a listener took, and what it was told
-abbrev pub hearing_kinds : List ℕ
-hearing_kinds = 47 ∷ 48 ∷ []
+abbrev pub hearing_kinds : List Kind
+hearing_kinds = kind.update_taken ∷ kind.arrival_judged ∷ []
 
 -- such a telling of the listener of a node
 abbrev pub is_hearing : ℕ → Telling → Bool
@@ -48,7 +50,7 @@ is_hearing n (telling.update_taken m addresses) = m == n
 is_hearing n (telling.arrival_judged m at from g) = m == n
 is_hearing n _ = false
 
-of_kinds : (n : ℕ) (t : Telling) → has hearing_kinds (kind t) ≡ false → is_hearing n t ≡ false
+of_kinds : (n : ℕ) (t : Telling) → has hearing_kinds (telling_kind t) ≡ false → is_hearing n t ≡ false
 of_kinds n (telling.update_taken m addresses) h = cc
 of_kinds n (telling.arrival_judged m at from g) h = cc
 of_kinds n _ h = refl

@@ -19,7 +19,8 @@ use Rattle.p2p_log_rules.specs.Tellings.{Telling}
 use Rattle.p2p_log_rules.specs.Tellings as telling
 use Rattle.p2p_log_rules.specs.Told.{when, over_tells, admitted_tells, act_tells, tells, told}
 use Rattle.p2p_log_rules.proofs.Connections.{steps_receiver}
-use Rattle.p2p_log_rules.proofs.Families.{kind, kinds_of, has, are_apart, untold_of}
+use Rattle.p2p_log_rules.proofs.TellingKinds as kind
+use Rattle.p2p_log_rules.proofs.Families.{telling_kind, kinds_of, has, are_apart, untold_of}
 use Rattle.p2p_log_rules.proofs.Others.{none_listed, listed_after}
 use Rattle.p2p_log_rules.proofs.Told.{over_quiet}
 use Rattle.p2p_log_rules.proofs.Tellings.{told-append}
@@ -39,7 +40,7 @@ module _ (limit n conn : ℕ) (what : Metered) where
   not_passed (telling.item_admitted m c at i) h = cc
   not_passed _ h = refl
 
-  of_kinds : (t : Telling) → has (42 ∷ []) (kind t) ≡ false → is_admission t ≡ false
+  of_kinds : (t : Telling) → has (kind.item_admitted ∷ []) (telling_kind t) ≡ false → is_admission t ≡ false
   unfolding is_admission
   of_kinds (telling.item_admitted m c at i) h = cc
   of_kinds _ h = refl
@@ -93,7 +94,7 @@ admitted_is limit n conn what log e = by e.event.act refl
         ∙ (listed_after (passes limit n conn what) (over_tells m c e.reply half) (admitted_tells m c e.event.at e.reply (taken log e) e.puts) (half_passes limit n conn what m c e.reply half)
         ∙ stepped limit n conn what m c e.event.at e.reply (taken log e) e.puts)
     by a is = none_listed is_admission (passes limit n conn what) (not_passed limit n conn what) (tells (told log) log e)
-        (untold_of is_admission (42 ∷ []) (of_kinds limit n conn what) (told log) log e (ap (λ b. are_apart (kinds_of b) (42 ∷ [])) is))
+        (untold_of is_admission (kind.item_admitted ∷ []) (of_kinds limit n conn what) (told log) log e (ap (λ b. are_apart (kinds_of b) (kind.item_admitted ∷ [])) is))
 
 pub admitted-append : (configs : List Config) (log : List Entry) (e : Entry) (n conn : ℕ) (what : Metered)
     → admitted configs (log ++ e ∷ []) n conn what ≡ admitted configs log n conn what ++ admitted_by (limit_at configs n) n conn what log e

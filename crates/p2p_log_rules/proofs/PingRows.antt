@@ -111,7 +111,7 @@ module _ (configs : List Config) (log : List Entry) (n conn at : ℕ) where
       by false running is_begun_now is_running_now done =
           sym (never (ping_is_due configs log n conn at) refl (λ due. let b = (runs due).0 in false≢true (sym is_begun_now ∙ b)))
       by true false is_begun_now is_running_now done =
-          oldest_pings (line log (queue.Ready n conn)) done
+          oldest_pings (line log (queue.RouterAnswer n conn)) done
           ∙ sym (never (ping_is_due configs log n conn at) refl (λ due. let b = (runs due).1 in false≢true (sym is_running_now ∙ (running_of log n conn half lived ∙ b))))
       by true true is_begun_now is_running_now done = running_pings half (ping_is_due configs log n conn at) done
 

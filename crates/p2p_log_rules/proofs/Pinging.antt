@@ -11,7 +11,7 @@ use Rattle.p2p_log.specs.declared.entry.Reply.TheVariants as reply
 use Rattle.p2p_log.specs.declared.event.Act.{Act}
 use Rattle.p2p_log.specs.declared.event.Act.TheVariants as act
 use Rattle.p2p_log_rules.specs.declared.row.Half.{Half}
-use Rattle.p2p_log_rules.specs.Connections.{is_answer, is_done, begins}
+use Rattle.p2p_log_rules.specs.Connections.{is_answer, is_done, begins_connection}
 use Rattle.p2p_log_rules.specs.Facts.{taken, state_from}
 use Rattle.p2p_log_rules.specs.HalfSteps.{puts_ping}
 use Rattle.p2p_log_rules.specs.Halves.{half_in}
@@ -20,7 +20,8 @@ use Rattle.p2p_log_rules.specs.Tellings.{Telling, last_or, or_new, first_or}
 use Rattle.p2p_log_rules.specs.Tellings as telling
 use Rattle.p2p_log_rules.specs.Told.{when, done_tells, sender_tells, over_tells, act_tells, tells, told}
 use Rattle.p2p_log_rules.proofs.Connections.{steps_sender, begins_is}
-use Rattle.p2p_log_rules.proofs.Families.{kind, kinds_of, has, are_apart, untold_of}
+use Rattle.p2p_log_rules.proofs.TellingKinds as kind
+use Rattle.p2p_log_rules.proofs.Families.{telling_kind, kinds_of, has, are_apart, untold_of}
 use Rattle.p2p_log_rules.proofs.Others.{last_kept, first_kept}
 use Rattle.p2p_log_rules.proofs.Told.{over_quiet}
 use Rattle.p2p_log_rules.proofs.Tellings.{told-append, last_or-append, first_or-append}
@@ -34,7 +35,7 @@ is_count (telling.connection_ran m c at) = true
 is_count (telling.ping_put m c at) = true
 is_count _ = false
 
-of_kinds : (t : Telling) → has (40 ∷ 41 ∷ []) (kind t) ≡ false → is_count t ≡ false
+of_kinds : (t : Telling) → has (kind.connection_ran ∷ kind.ping_put ∷ []) (telling_kind t) ≡ false → is_count t ≡ false
 unfolding is_count
 of_kinds (telling.connection_ran m c at) h = cc
 of_kinds (telling.ping_put m c at) h = cc
@@ -117,7 +118,7 @@ module _ (n conn : ℕ) where
 
 -- what an entry makes of it
 counted_by : (log : List Entry) (e : Entry) (n conn : ℕ) (pinged ran : Option ℕ)
-    → counted n conn (tells (told log) log e) pinged ran ≡ cond (begins n conn log e) (counted_now e.event.at (taken log e) e.puts (or_from pinged ran)) (or_from pinged ran)
+    → counted n conn (tells (told log) log e) pinged ran ≡ cond (begins_connection n conn log e) (counted_now e.event.at (taken log e) e.puts (or_from pinged ran)) (or_from pinged ran)
 unfolding tells
 counted_by log e n conn pinged ran =
     by e.event.act refl ∙ ap (λ b. cond b (counted_now e.event.at (taken log e) e.puts (or_from pinged ran)) (or_from pinged ran)) (sym (begins_is log e n conn))
@@ -132,10 +133,10 @@ counted_by log e n conn pinged ran =
         ∙ (ap (λ o. counted n conn more o (first_or ran (runs_from n conn) half)) (last_kept is_count (pings_at n conn) (not_pinged n conn) pinged half (half_quiet n conn m c e.reply (half_in (told log) m c)))
         ∙ (ap (λ o. counted n conn more pinged o) (first_kept is_count (runs_from n conn) (not_run n conn) ran half (half_quiet n conn m c e.reply (half_in (told log) m c)))
         ∙ stepped n conn m c e.event.at e.reply (taken log e) e.puts pinged ran)))
-    by a is = counted_same n conn (tells (told log) log e) pinged ran (untold_of is_count (40 ∷ 41 ∷ []) of_kinds (told log) log e (ap (λ b. are_apart (kinds_of b) (40 ∷ 41 ∷ [])) is))
+    by a is = counted_same n conn (tells (told log) log e) pinged ran (untold_of is_count (kind.connection_ran ∷ kind.ping_put ∷ []) of_kinds (told log) log e (ap (λ b. are_apart (kinds_of b) (kind.connection_ran ∷ kind.ping_put ∷ [])) is))
 
 pub last_pinged-told : (configs : List Config) (log : List Entry) (e : Entry) (n conn : ℕ)
-    → last_pinged configs (log ++ e ∷ []) n conn ≡ cond (begins n conn log e) (counted_now e.event.at (taken log e) e.puts (last_pinged configs log n conn)) (last_pinged configs log n conn)
+    → last_pinged configs (log ++ e ∷ []) n conn ≡ cond (begins_connection n conn log e) (counted_now e.event.at (taken log e) e.puts (last_pinged configs log n conn)) (last_pinged configs log n conn)
 unfolding last_pinged
 last_pinged-told configs log e n conn =
     ap (λ l. counted n conn l None None) (told-append log e)
@@ -143,7 +144,7 @@ last_pinged-told configs log e n conn =
     ∙ counted_by log e n conn (last_or None (pings_at n conn) (told log)) (first_or None (runs_from n conn) (told log)))
 
 -- no step of its sending half was done
-pub last_pinged-kept : (configs : List Config) (log : List Entry) (e : Entry) (n conn : ℕ) → begins n conn log e ≡ false → last_pinged configs (log ++ e ∷ []) n conn ≡ last_pinged configs log n conn
+pub last_pinged-kept : (configs : List Config) (log : List Entry) (e : Entry) (n conn : ℕ) → begins_connection n conn log e ≡ false → last_pinged configs (log ++ e ∷ []) n conn ≡ last_pinged configs log n conn
 last_pinged-kept configs log e n conn none =
     last_pinged-told configs log e n conn ∙ ap (λ b. cond b (counted_now e.event.at (taken log e) e.puts (last_pinged configs log n conn)) (last_pinged configs log n conn)) none
 
@@ -155,11 +156,11 @@ counted_from frequency at items None = cond (list_any is_answer items) (Some at)
 counted_from frequency at items (Some from) = cond (is_past frequency at (Some from)) (Some at) (Some from)
 
 abbrev pub pinged_by : ℕ → ℕ → ℕ → List Entry → Entry → Option ℕ → Option ℕ
-pinged_by frequency n conn before e last = cond (begins n conn before e) (counted_from frequency e.event.at (taken before e) last) last
+pinged_by frequency n conn before e last = cond (begins_connection n conn before e) (counted_from frequency e.event.at (taken before e) last) last
 
 -- a step that is done puts a ping exactly where one is due
 abbrev pub PingsWhenDue : List Config → List Entry → Entry → ℕ → ℕ → Type 0
-PingsWhenDue configs log e n conn = begins n conn log e ≡ true → puts_ping (taken log e) e.puts ≡ ping_is_due configs log n conn e.event.at
+PingsWhenDue configs log e n conn = begins_connection n conn log e ≡ true → puts_ping (taken log e) e.puts ≡ ping_is_due configs log n conn e.event.at
 
 counts_due : (frequency at : ℕ) (items : List Item) (puts : List (Queue × Item)) (last : Option ℕ) → puts_ping items puts ≡ is_past frequency at last → counted_now at items puts last ≡ counted_from frequency at items last
 counts_due frequency at items puts None h = ap (λ b. cond b (Some at) (cond (list_any is_answer items) (Some at) None)) h
@@ -167,7 +168,7 @@ counts_due frequency at items puts (Some from) h = ap (λ b. cond b (Some at) (S
 
 pub last_pinged-append : (configs : List Config) (log : List Entry) (e : Entry) (n conn : ℕ) → PingsWhenDue configs log e n conn
     → last_pinged configs (log ++ e ∷ []) n conn ≡ pinged_by (ping_frequency_at configs n) n conn log e (last_pinged configs log n conn)
-last_pinged-append configs log e n conn due = last_pinged-told configs log e n conn ∙ by (begins n conn log e) due
+last_pinged-append configs log e n conn due = last_pinged-told configs log e n conn ∙ by (begins_connection n conn log e) due
   where
     last : Option ℕ
     last = last_pinged configs log n conn

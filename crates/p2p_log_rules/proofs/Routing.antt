@@ -21,7 +21,9 @@ use Rattle.p2p_log_rules.specs.Tellings.{Telling, last_or}
 use Rattle.p2p_log_rules.specs.Tellings as telling
 use Rattle.p2p_log_rules.specs.Told.{act_tells, tells, told}
 use Rattle.p2p_log_rules.proofs.Acted.{tells_as, TellsNone, collected-append, collected-kept}
-use Rattle.p2p_log_rules.proofs.Families.{kind, kinds_of, has, are_apart, untold_of}
+use Rattle.p2p_log_rules.proofs.TellingKinds.{Kind}
+use Rattle.p2p_log_rules.proofs.TellingKinds as kind
+use Rattle.p2p_log_rules.proofs.Families.{telling_kind, kinds_of, has, are_apart, untold_of}
 use Rattle.p2p_log_rules.proofs.Ignoring.{flat_map-none}
 use Rattle.p2p_log_rules.proofs.Routed.{router_quiet}
 use Rattle.p2p_log_rules.proofs.Tellings.{or_left, or_right, append_quiet, told-append, last_or-append}
@@ -29,8 +31,8 @@ use Rattle.p2p_log_rules.proofs.Tellings.{or_left, or_right, append_quiet, told-
 -- ---- what is told by a step of a router, and by another act
 
 -- an act that is no step of a router tells nothing of these kinds
-untold_kinds : (js : List ℕ) (ts : List Telling) (log : List Entry) (e : Entry) → are_apart (kinds_of e.event.act) js ≡ true → list_any (λ t. has js (kind t)) (tells ts log e) ≡ false
-untold_kinds js ts log e h = untold_of (λ t. has js (kind t)) js (λ t k. k) ts log e h
+untold_kinds : (js : List Kind) (ts : List Telling) (log : List Entry) (e : Entry) → are_apart (kinds_of e.event.act) js ≡ true → list_any (λ t. has js (telling_kind t)) (tells ts log e) ≡ false
+untold_kinds js ts log e h = untold_of (λ t. has js (telling_kind t)) js (λ t k. k) ts log e h
 
 abbrev acts_tell : List Telling → List Entry → Entry → Act → List Telling
 acts_tell ts log e a = act_tells ts log (length log) e.event.at e.event.seed e.reply (taken log e) e.puts a
@@ -38,8 +40,8 @@ acts_tell ts log e a = act_tells ts log (length log) e.event.at e.event.seed e.r
 -- ---- what a router has, after tellings
 
 -- what tells of a router
-abbrev pub route_kinds : List ℕ
-route_kinds = 70 ∷ 71 ∷ 72 ∷ []
+abbrev pub route_kinds : List Kind
+route_kinds = kind.lists_wanted ∷ kind.ready_routed ∷ kind.release_routed ∷ []
 
 -- whether it is told of a node's router
 abbrev pub of_router : ℕ → Telling → Bool
@@ -68,7 +70,7 @@ module _ (n : ℕ) where
   unrouted r (telling.lists_wanted m c ∷ ts) h = unrouted r ts (or_right (m == n) (list_any (of_router n) ts) h)
   unrouted r (t ∷ ts) h = unrouted r ts h
 
-  of_kinds : (t : Telling) → has route_kinds (kind t) ≡ false → of_router n t ≡ false
+  of_kinds : (t : Telling) → has route_kinds (telling_kind t) ≡ false → of_router n t ≡ false
   of_kinds (telling.lists_wanted m c) h = cc
   of_kinds (telling.ready_routed m conn key) h = cc
   of_kinds (telling.release_routed m key) h = cc
@@ -205,7 +207,7 @@ module _ (n c : ℕ) where
       ∙ (ap (λ o. last_or o (lists_peers n c) (flat_map listed_tells puts)) (put_listed old x)
       ∙ (puts_listed (newest old (list_put n c x)) puts ∙ sym (newest-append old (list_put n c x) (flat_map (list_put n c) puts))))
 
-  none_listed : (old : List Key) (ts : List Telling) → list_any (λ t. has (73 ∷ []) (kind t)) ts ≡ false → last_or old (lists_peers n c) ts ≡ old
+  none_listed : (old : List Key) (ts : List Telling) → list_any (λ t. has (kind.peers_listed ∷ []) (telling_kind t)) ts ≡ false → last_or old (lists_peers n c) ts ≡ old
   none_listed old [] h = refl
   none_listed old (telling.peers_listed m d keys ∷ ts) h = cc
   none_listed old (t ∷ ts) h = none_listed old ts h
@@ -237,7 +239,7 @@ module _ (n c : ℕ) where
     where
       by : (a : Act) → e.event.act ≡ a → last_or old (lists_peers n c) (tells ts log e) ≡ old
       by (act.Router m) is = listed_by ts log e m old is ∙ ap (newest old) none
-      by a is = none_listed old (tells ts log e) (untold_kinds (73 ∷ []) ts log e (ap (λ b. are_apart (kinds_of b) (73 ∷ [])) is))
+      by a is = none_listed old (tells ts log e) (untold_kinds (kind.peers_listed ∷ []) ts log e (ap (λ b. are_apart (kinds_of b) (kind.peers_listed ∷ [])) is))
 
 -- a step of a router, by the lists that it puts
 pub peers_told-routed : (log : List Entry) (e : Entry) (n c m : ℕ) → e.event.act ≡ act.Router m → peers_told (log ++ e ∷ []) n c ≡ newest (peers_told log n c) (lists_put n c e)

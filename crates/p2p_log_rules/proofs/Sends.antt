@@ -14,15 +14,17 @@ use Rattle.p2p_log_rules.specs.Tellings.{Telling}
 use Rattle.p2p_log_rules.specs.Tellings as telling
 use Rattle.p2p_log_rules.specs.Told.{admitted_in, check_tells, tells, told}
 use Rattle.p2p_log_rules.proofs.Acted.{tells_as, TellsNone, collected-append, collected-kept, collected-apart}
-use Rattle.p2p_log_rules.proofs.Families.{kind, has}
+use Rattle.p2p_log_rules.proofs.TellingKinds.{Kind}
+use Rattle.p2p_log_rules.proofs.TellingKinds as kind
+use Rattle.p2p_log_rules.proofs.Families.{telling_kind, has}
 
 -- ---- an act that asks no quota of a channel
 
 -- what tells whom a quota admits
-abbrev pub send_kinds : List ℕ
-send_kinds = 43 ∷ []
+abbrev pub send_kinds : List Kind
+send_kinds = kind.sends_admitted ∷ []
 
-of_sends : (n c : ℕ) (k : Key) (t : Telling) → has send_kinds (kind t) ≡ false → admits_key n c k t ≡ []
+of_sends : (n c : ℕ) (k : Key) (t : Telling) → has send_kinds (telling_kind t) ≡ false → admits_key n c k t ≡ []
 of_sends n c k (telling.sends_admitted m d at keys) h = cc
 of_sends n c k _ h = refl
 

@@ -12,7 +12,8 @@ use Rattle.p2p_log_rules.specs.Spawning.{Spawned, spawned_of, connections_of}
 use Rattle.p2p_log_rules.specs.Tellings.{Telling, last_or}
 use Rattle.p2p_log_rules.specs.Tellings as telling
 use Rattle.p2p_log_rules.specs.Told.{spawn_tells, act_tells, tells, told}
-use Rattle.p2p_log_rules.proofs.Families.{kind, kinds_of, has, are_apart, untold_of}
+use Rattle.p2p_log_rules.proofs.TellingKinds as kind
+use Rattle.p2p_log_rules.proofs.Families.{telling_kind, kinds_of, has, are_apart, untold_of}
 use Rattle.p2p_log_rules.proofs.Tellings.{late_told, or_left, or_right, told-append, last_or-append}
 use Rattle.p2p_log.specs.declared.item.Item.TheVariants as item
 use Rattle.std.specs.List.{list_any}
@@ -37,7 +38,7 @@ module _ (n k : ℕ) where
       by None none = refl
       by (Some x) none = cc
 
-  of_kinds : (t : Telling) → has (15 ∷ []) (kind t) ≡ false → makes_one t ≡ false
+  of_kinds : (t : Telling) → has (kind.connection_made ∷ []) (telling_kind t) ≡ false → makes_one t ≡ false
   unfolding makes_one
   of_kinds (telling.connection_made m j key link) h = cc
   of_kinds _ h = refl
@@ -63,7 +64,7 @@ made_by ts log e n k f = by e.event.act refl
     by : (a : Act) → e.event.act ≡ a → last_or (f k) (makes_connection n k) (tells ts log e) ≡ acted_connections n (length log) (taken log e) a f k
     by (act.Spawner m) is =
         ap (λ a. last_or (f k) (makes_connection n k) (act_tells ts log (length log) e.event.at e.event.seed e.reply (taken log e) e.puts a)) is ∙ spawned n k m (length log) (taken log e) f
-    by a is = none_made n k (tells ts log e) (f k) (untold_of (makes_one n k) (15 ∷ []) (of_kinds n k) ts log e (ap (λ b. are_apart (kinds_of b) (15 ∷ [])) is))
+    by a is = none_made n k (tells ts log e) (f k) (untold_of (makes_one n k) (kind.connection_made ∷ []) (of_kinds n k) ts log e (ap (λ b. are_apart (kinds_of b) (kind.connection_made ∷ [])) is))
 
 pub connections_of-append : (log : List Entry) (e : Entry) (n k : ℕ) → connections_of (log ++ e ∷ []) n k ≡ acted_connections n (length log) (taken log e) e.event.act (connections_of log n) k
 unfolding connections_of

@@ -14,7 +14,7 @@ use Rattle.p2p_log_rules.specs.Halves.{makes_connection}
 use Rattle.p2p_log_rules.specs.Spawning.{Spawned, connections_of}
 use Rattle.p2p_log_rules.specs.Tellings.{Telling, Last, last_told, last_or}
 use Rattle.p2p_log_rules.specs.Tellings as telling
-use Rattle.p2p_log_rules.specs.Told.{Begun, begins, ends, begins_attempt, attempts_in, made_in, connections_in, stop_tells, told}
+use Rattle.p2p_log_rules.specs.Told.{Begun, begun_as, ends, begins_attempt, attempts_in, made_in, connections_in, stop_tells, told}
 use Rattle.p2p_log_rules.proofs.Attempts.{is_begun, begun_or, attempt_one, attempt_after, attempt_told, attempts_of-append}
 use Rattle.p2p_log_rules.proofs.Channels.{IsStopOf, tells_stop}
 use Rattle.p2p_log_rules.proofs.Bools.{or_true}
@@ -37,7 +37,7 @@ module _ (rules : DialRules) (n k : ℕ) where
 
   -- where none begins, one that ends leaves none
   over : (t : Telling) (o : Option Attempt) → is_begun n k t ≡ false → ends n k t ≡ true → after t o ≡ None
-  over t o none ended = by (begins n k t) (ends n k t) none ended
+  over t o none ended = by (begun_as n k t) (ends n k t) none ended
     where
       by : (p : Option Begun) (b : Bool) → is_some p ≡ false → b ≡ true → begun_or rules n k p (cond b None (option_map (attempt_one rules n k t) o)) ≡ None
       by None true none ended = refl
@@ -45,7 +45,7 @@ module _ (rules : DialRules) (n k : ℕ) where
       by (Some p) b none ended = absurd (false≢true (sym none))
 
   nothing : (t : Telling) → is_begun n k t ≡ false → after t None ≡ None
-  nothing t none = by (begins n k t) (ends n k t) none
+  nothing t none = by (begun_as n k t) (ends n k t) none
     where
       by : (p : Option Begun) (b : Bool) → is_some p ≡ false → begun_or rules n k p (cond b None (option_map (attempt_one rules n k t) None)) ≡ None
       by None true none = refl
@@ -66,7 +66,7 @@ module _ (rules : DialRules) (n k : ℕ) where
       by false is h then = then h
 
   -- an attempt that stands is among those that have not ended
-  begins_it : (t : Telling) (b : Begun) → begins n k t ≡ Some b → begins_attempt n t ≡ Some k
+  begins_it : (t : Telling) (b : Begun) → begun_as n k t ≡ Some b → begins_attempt n t ≡ Some k
   begins_it (telling.attempt_begun m j key ingress at) b is = by (m == n) refl (k == j) refl is
     where
       by : (c : Bool) → (m == n) ≡ c → (d : Bool) → (k == j) ≡ d → cond (c && d) (Some (record { key = key; ingress = ingress; at = at })) None ≡ Some b → cond (m == n) (Some j) None ≡ Some k
@@ -76,15 +76,15 @@ module _ (rules : DialRules) (n k : ℕ) where
   begins_it _ b is = absurd (cc)
 
   stands_in : (ts : List Telling) (a : Attempt) → attempt_in n k rules ts ≡ Some a → Has (attempts_in ts n) k
-  stands_in ts a is = by (last_told (begins n k) ts) refl is
+  stands_in ts a is = by (last_told (begun_as n k) ts) refl is
     where
-      by : (o : Option (Last Begun)) → last_told (begins n k) ts ≡ o → attempt_by_last n k rules o ≡ Some a → Has (attempts_in ts n) k
+      by : (o : Option (Last Begun)) → last_told (begun_as n k) ts ≡ o → attempt_by_last n k rules o ≡ Some a → Has (attempts_in ts n) k
       by None last is = absurd (cc)
       by (Some l) last is = since (list_any (ends n k) l.since) refl is
         where
           since : (b : Bool) → list_any (ends n k) l.since ≡ b → cond b None (Some (attempt_since n k rules l.told l.since)) ≡ Some a → Has (attempts_in ts n) k
           since true over is = absurd (cc)
-          since false lives is = stands_since (begins_attempt n) (ends n) (begins n k) k begins_it ts l last lives
+          since false lives is = stands_since (begins_attempt n) (ends n) (begun_as n k) k begins_it ts l last lives
 
 -- none stands once its node has stopped
 pub attempts_of-stopped : (configs : List Config) (log : List Entry) (e : Entry) (n : ℕ) → IsStopOf log e n → (k : ℕ) → attempts_of configs (log ++ e ∷ []) n k ≡ None

@@ -26,7 +26,7 @@ use Rattle.p2p_log.proofs.QueueNames.{queue_from_same}
 abbrev pub in_router : ℕ → Queue → Bool
 in_router n (queue.Router m) = m == n
 in_router n (queue.Peers m c) = m == n
-in_router n (queue.Ready m e) = m == n
+in_router n (queue.RouterAnswer m e) = m == n
 in_router n (queue.High m e) = m == n
 in_router n (queue.Low m e) = m == n
 in_router n _ = false
@@ -43,7 +43,7 @@ in_held n conn _ = false
 
 -- what a half of a connection has: what it is to write, its router's answer, and its link
 abbrev pub in_half : Option Half → ℕ → ℕ → Queue → Bool
-in_half o n conn (queue.Ready m e) = (m == n) && (e == conn)
+in_half o n conn (queue.RouterAnswer m e) = (m == n) && (e == conn)
 in_half o n conn (queue.High m e) = (m == n) && (e == conn)
 in_half o n conn (queue.Low m e) = (m == n) && (e == conn)
 in_half o n conn q = in_link o q
@@ -61,11 +61,11 @@ in_channels n _ = false
 -- what a tracker has: its mailbox, and the queues to which it writes
 abbrev pub in_tracker : ℕ → Queue → Bool
 in_tracker n (queue.Tracker m) = m == n
-in_tracker n (queue.Update m) = m == n
+in_tracker n (queue.Addresses m) = m == n
 in_tracker n (queue.Dialer m) = m == n
 in_tracker n (queue.Control m e) = m == n
-in_tracker n (queue.Answer m e) = m == n
-in_tracker n (queue.Updates m e) = m == n
+in_tracker n (queue.PeerSet m e) = m == n
+in_tracker n (queue.PeerSetUpdates m e) = m == n
 in_tracker n (queue.Blocked m e) = m == n
 in_tracker n (queue.Handshake m e) = m == n
 in_tracker n _ = false
@@ -81,8 +81,8 @@ in_ends (Some o) q = same_queue (queue.Attempt o.node o.attempt) q || in_handsha
 
 -- whether what is told for what the event e asked stands in the queue
 abbrev pub is_told_to : Option Act → ℕ → Queue → Bool
-is_told_to (Some (act.Ask (ask.PeerSet index) n)) e q = same_queue (queue.Answer n e) q
-is_told_to (Some (act.Ask ask.Subscribe n)) e q = same_queue (queue.Updates n e) q
+is_told_to (Some (act.Ask (ask.PeerSet index) n)) e q = same_queue (queue.PeerSet n e) q
+is_told_to (Some (act.Ask ask.Subscribe n)) e q = same_queue (queue.PeerSetUpdates n e) q
 is_told_to (Some (act.Ask ask.Blocked n)) e q = same_queue (queue.Blocked n e) q
 is_told_to _ e q = false
 
@@ -111,7 +111,7 @@ reads configs log (act.Answer e) q = is_told_to (asked_by log e) e q
 reads configs log (act.Next e) q = is_told_to (asked_by log e) e q
 reads configs log (act.Tracker n) q = same_queue (queue.Tracker n) q
 reads configs log (act.Dialer n) q = same_queue (queue.Dialer n) q
-reads configs log (act.Listener n) q = same_queue (queue.Update n) q || same_queue (queue.Arrivals n) q
+reads configs log (act.Listener n) q = same_queue (queue.Addresses n) q || same_queue (queue.Arrivals n) q
 reads configs log (act.Handshake e n) q = same_queue (queue.Handshake n e) q
 reads configs log (act.Spawner n) q = same_queue (queue.Spawner n) q
 reads configs log (act.Attempt e n) q = same_queue (queue.Attempt n e) q

@@ -19,10 +19,10 @@ use Rattle.p2p_log.specs.declared.entry.Reply.TheVariants as reply
 use Rattle.p2p_log.specs.Lines.{name_of, line}
 use Rattle.p2p_log_rules.specs.declared.row.Row.{Row}
 use Rattle.p2p_log_rules.specs.Facts.{is_up, key_at}
-use Rattle.p2p_log_rules.specs.Rows.{only, is_spawner_full}
+use Rattle.p2p_log_rules.specs.Rows.{only, taken_row, is_spawner_full}
 use Rattle.p2p_log_rules.specs.Tellings.{Telling, Last, last_told, last_or, first_or, any_or, least_or}
 use Rattle.p2p_log_rules.specs.Tellings as telling
-use Rattle.p2p_log_rules.specs.Told.{Begun, begins, ends, opens, told}
+use Rattle.p2p_log_rules.specs.Told.{Begun, begun_as, ends, opens, told}
 
 -- how long a dial may take, and how long the keys of a link may be exchanged; and whether a dial may reach addresses that aren't
 -- global
@@ -78,9 +78,9 @@ module _ (n k : ℕ) where
   tells_addresses (telling.addresses_told m j) = (m == n) && (k == j)
   tells_addresses _ = false
 
-  abbrev pub answers : Telling → Option (Option ℕ)
-  answers (telling.dial_answered m j event) = cond ((m == n) && (k == j)) (Some (Some event)) None
-  answers _ = None
+  abbrev pub answers_dial : Telling → Option (Option ℕ)
+  answers_dial (telling.dial_answered m j event) = cond ((m == n) && (k == j)) (Some (Some event)) None
+  answers_dial _ = None
 
   -- the address that is drawn of those that it took
   abbrev pub draws : Bool → Telling → Option SocketAddr
@@ -100,7 +100,7 @@ module _ (n k : ℕ) where
     address = first_or (socket_of b.ingress) (draws rules.private) ts;
     deadline = least_or (b.at + rules.timeout) (waits rules.handshake_timeout) ts;
     is_resolved = any_or false tells_addresses ts;
-    answer = last_or None answers ts;
+    answer = last_or None answers_dial ts;
     link = last_or None (opens n k) ts;
   }
 
@@ -109,7 +109,7 @@ module _ (n k : ℕ) where
   attempt_by_last rules (Some l) = cond (list_any (ends n k) l.since) None (Some (attempt_since rules l.told l.since))
 
   abbrev pub attempt_in : DialRules → List Telling → Option Attempt
-  attempt_in rules ts = attempt_by_last rules (last_told (begins n k) ts)
+  attempt_in rules ts = attempt_by_last rules (last_told (begun_as n k) ts)
 
 -- the attempts of a node that have not ended, by the events that began them
 unfoldable pub attempts_of : List Config → List Entry → ℕ → ℕ → Option Attempt
@@ -125,20 +125,16 @@ left_ends xs = map (λ x. end.Item x.entry x.place) xs
 abbrev pub given_up_row : ℕ → Key → List (ℕ × ℕ) → List Envelope → Row
 given_up_row n key names left = record { reply = reply.Ok; takes = names; puts = (queue.Tracker n, item.Release key) ∷ []; ends = left_ends left }
 
--- it goes on, once it took this
-abbrev pub gone_on_row : ℕ × ℕ → Row
-gone_on_row name = record { reply = reply.Ok; takes = name ∷ []; puts = []; ends = [] }
-
 -- it goes on if anything is left of it
 abbrev pub resolved_row : Option Attempt → ℕ → Key → ℕ × ℕ → List Envelope → Row
 resolved_row None n key name left = given_up_row n key (name ∷ []) left
-resolved_row (Some a) n key name left = gone_on_row name
+resolved_row (Some a) n key name left = taken_row name
 
 -- it ends with the reservation of this key, by which a connection is to be made over this link; where no more of these may wait, it
 -- ends without one
-abbrev pub ready_row : ℕ → Bool → Key → ℕ → ℕ × ℕ → List Envelope → Row
-ready_row n true key link name left = given_up_row n key (name ∷ []) left
-ready_row n false key link name left =
+abbrev pub handed_on_row : ℕ → Bool → Key → ℕ → ℕ × ℕ → List Envelope → Row
+handed_on_row n true key link name left = given_up_row n key (name ∷ []) left
+handed_on_row n false key link name left =
     record { reply = reply.Ok; takes = name ∷ []; puts = (queue.Spawner n, item.Spawn key link) ∷ []; ends = left_ends left }
 
 -- the link of an attempt whose dial was answered by the event of this name
@@ -149,8 +145,8 @@ link_of (Some name) = name
 -- by what it took, and by whether its node's spawner is full
 abbrev pub attempt_took_row : ℕ → Bool → Bool → ℕ → Attempt → ℕ × ℕ → Item → List Envelope → Row
 attempt_took_row n full private seed a name (item.Resolved addresses) left = resolved_row (resolved a.address private addresses seed a) n a.key name left
-attempt_took_row n full private seed a name item.Linked left = gone_on_row name
-attempt_took_row n full private seed a name (item.Finished true) left = ready_row n full a.key (link_of a.answer) name left
+attempt_took_row n full private seed a name item.Linked left = taken_row name
+attempt_took_row n full private seed a name (item.Finished true) left = handed_on_row n full a.key (link_of a.answer) name left
 attempt_took_row n full private seed a name _ left = given_up_row n a.key (name ∷ []) left
 
 -- the oldest item, or else its deadline

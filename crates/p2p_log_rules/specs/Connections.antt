@@ -39,8 +39,8 @@ unfoldable pub is_begun : List Entry → ℕ → ℕ → Bool
 is_begun log n conn = list_any (is_step n conn) (told log)
 
 -- whether its sending half does a step in an entry: it begins there, or had begun
-abbrev pub begins : ℕ → ℕ → List Entry → Entry → Bool
-begins n conn before e = tells_some (is_step n conn) before e
+abbrev pub begins_connection : ℕ → ℕ → List Entry → Entry → Bool
+begins_connection n conn before e = tells_some (is_step n conn) before e
 
 -- that its sending half took its router's answer
 abbrev pub is_answered : ℕ → ℕ → Telling → Bool

@@ -13,7 +13,7 @@ use Rattle.p2p_log.specs.declared.entry.Reply.TheVariants as reply
 use Rattle.p2p_log.specs.Lines.{name_of, line}
 use Rattle.p2p_log_rules.specs.declared.row.Row.{Row}
 use Rattle.p2p_log_rules.specs.Facts.{is_up}
-use Rattle.p2p_log_rules.specs.Rows.{only}
+use Rattle.p2p_log_rules.specs.Rows.{only, taken_row}
 use Rattle.p2p_log_rules.specs.Tellings.{Telling, Last, last_told, last_or}
 use Rattle.p2p_log_rules.specs.Tellings as telling
 use Rattle.p2p_log_rules.specs.Told.{told, asks_list}
@@ -34,11 +34,11 @@ module _ (pace : Pace) where
   after_dial at = at + pace.frequency
 
   -- the deadline with nobody to dial, which it had asked at the moment `asked`: when there may be more, or else the latest one, and within both bounds
-  abbrev pub next_query : ℕ → Option ℕ → ℕ
-  next_query asked next = min (max (unwrap_or next (asked + pace.cooldown)) (after_dial asked)) (max (asked + pace.cooldown) (after_dial asked))
+  abbrev pub asks_again_at : ℕ → Option ℕ → ℕ
+  asks_again_at asked next = min (max (unwrap_or next (asked + pace.cooldown)) (after_dial asked)) (max (asked + pace.cooldown) (after_dial asked))
 
   abbrev pub next_deadline : ℕ → List Key → Option ℕ → ℕ
-  next_deadline asked [] next = next_query asked next
+  next_deadline asked [] next = asks_again_at asked next
   next_deadline asked (k ∷ ks) next = after_dial asked
 
 -- what stands of a dialer: the keys that it dials, the last one first; the moment from which it dials or asks again; the moment at which it
@@ -138,7 +138,7 @@ dials_row n names peers = record { reply = reply.Ok; takes = names; puts = dial_
 abbrev pub answer_taken_row : ℕ → ℕ → Dials → ℕ × ℕ → Item → Row
 answer_taken_row n seed d name (item.Dialable next peers) = dials_row n (name ∷ []) (in_drawn_order seed peers)
 answer_taken_row n seed d name (item.Dial None) = dials_row n (name ∷ []) d.peers
-answer_taken_row n seed d name (item.Dial (Some grant)) = record { reply = reply.Ok; takes = name ∷ []; puts = []; ends = [] }
+answer_taken_row n seed d name (item.Dial (Some grant)) = taken_row name
 answer_taken_row n seed d name _ = only reply.Idle
 
 -- its deadline has come: it dials the next key, and without one asks whom to dial

@@ -38,11 +38,11 @@ use Rattle.p2p_log_rules.specs.Dropping.{attempt_step_row, handshake_step_row, l
 use Rattle.p2p_log_rules.specs.Ending.{end_row}
 use Rattle.p2p_log_rules.specs.Frames.{frame_of, message_in, is_ping_in}
 pub use Rattle.p2p_log_rules.specs.Full.{router_capacity}
-use Rattle.p2p_log_rules.specs.Full.{is_full}
+use Rattle.p2p_log_rules.specs.Full.{is_reached, holds_all, is_full}
 pub use Rattle.p2p_log_rules.specs.Metering.{limit_at}
 use Rattle.p2p_log_rules.specs.Metering.{pings, messages, may_pass}
 use Rattle.p2p_log_rules.specs.Pings.{ping_frame, ping_is_due}
-pub use Rattle.p2p_log_rules.specs.Rows.{only, takes_oldest, mailbox_size_at, overwritten, ring_ends}
+pub use Rattle.p2p_log_rules.specs.Rows.{only, taken_row, takes_oldest, mailbox_size_at, overwritten, ring_ends}
 use Rattle.p2p_log_rules.specs.Admitting.{offered, keys_admitted, retry_moment}
 use Rattle.p2p_log_rules.specs.Checking.{Check, check_of}
 use Rattle.p2p_log_rules.specs.Closing.{is_closed, has_reader, close_row, refused_by}
@@ -191,7 +191,7 @@ dropped_copy c send p so_far = record so_far { ends = so_far.ends ++ end.Copy se
 -- a copy enters its relay's queue, or is dropped where that holds its size already
 abbrev pub spread_one : ℕ → List Envelope → Queue → ℕ → ℕ → List ℕ → Spread → Spread
 spread_one size items q send p frame so_far =
-    cond (nat_le size (length (filter (stands_in q) items) + count_by (goes_to q) so_far.puts))
+    cond (is_reached (Some size) (length (filter (stands_in q) items) + count_by (goes_to q) so_far.puts))
     (dropped_copy cause.RelayFull send p so_far)
     (record so_far { puts = so_far.puts ++ (q, item.Frame (Some (send, p)) frame) ∷ [] })
 
@@ -212,7 +212,7 @@ row_of_spread name s = record { reply = reply.Ok; takes = name ∷ []; puts = s.
 -- its answer to a connection, unless that has ended
 abbrev pub answer_puts : Bool → ℕ → ℕ → List (Queue × Item)
 answer_puts true n conn = []
-answer_puts false n conn = (queue.Ready n conn, item.Answer) ∷ []
+answer_puts false n conn = (queue.RouterAnswer n conn, item.RouterAnswer) ∷ []
 
 -- it takes that a connection is ready, which has ended or not: it may run, and each subscriber hears of it
 abbrev pub ready_row : List Entry → ℕ → ℕ × ℕ → ℕ → Key → Bool → List Envelope → Row
@@ -246,7 +246,7 @@ route_row configs log n name (item.Release key) items =
 -- content: a copy to each recipient, in order
 route_row configs log n name (item.Content c frame priority send to) items =
     row_of_spread name (spread (mailbox_size_at configs n) items n priority (is_ended log n) (routes log n) send 0 frame to (record { puts = []; ends = [] }))
-route_row configs log n name _ items = record { reply = reply.Ok; takes = name ∷ []; puts = []; ends = [] }
+route_row configs log n name _ items = taken_row name
 
 abbrev pub route_oldest : List Config → List Entry → ℕ → List Envelope → Row
 route_oldest configs log n [] = only reply.Idle
@@ -310,7 +310,7 @@ begin_row n conn peer = record {
 -- its half, by whether it has begun and whether it runs: its router's answer comes before what it writes
 abbrev pub half_row : List Config → List Entry → ℕ → ℕ → ℕ → Half → Bool → Bool → Row
 half_row configs log n conn at half false running = begin_row n conn half.peer
-half_row configs log n conn at half true false = takes_oldest (line log (queue.Ready n conn))
+half_row configs log n conn at half true false = takes_oldest (line log (queue.RouterAnswer n conn))
 half_row configs log n conn at half true true = running_row configs log n conn half (ping_is_due configs log n conn at)
 
 abbrev pub sender_row : List Config → List Entry → ℕ → ℕ → ℕ → Option Half → Row
@@ -329,15 +329,11 @@ delivered_row None n name from copy message =
 
 abbrev pub deliver_row : List Entry → ℕ → ℕ × ℕ → Key → ℕ × ℕ → ℕ × List ℕ → ℕ → Row
 deliver_row log n name from copy message capacity =
-    delivered_row (refused_by (is_closed log n message.0) (nat_le capacity (length (line log (queue.Channel n message.0))))) n name from copy message
+    delivered_row (refused_by (is_closed log n message.0) (holds_all (Some capacity) (line log (queue.Channel n message.0)))) n name from copy message
 
 -- what came waits until its quota admits it
 abbrev pub hold_row : ℕ → ℕ → ℕ × ℕ → Item → Row
 hold_row n conn name i = record { reply = reply.Ok; takes = name ∷ []; puts = (queue.Held n conn, i) ∷ []; ends = [] }
-
--- a ping leaves no trace
-abbrev pub pass_row : ℕ × ℕ → Row
-pass_row name = record { reply = reply.Ok; takes = name ∷ []; puts = []; ends = [] }
 
 module _ (configs : List Config) (log : List Entry) (n conn at : ℕ) (half : Half) where
   -- the connection ends for what came, whose copy is dropped
@@ -356,10 +352,10 @@ module _ (configs : List Config) (log : List Entry) (n conn at : ℕ) (half : Ha
             (hold_row n conn (name_of x) (item.Held message.0 message.1 copy))
       ]
 
-  -- a ping by the quota of pings
+  -- a ping by the quota of pings: it leaves no trace
   abbrev pub ping_row : Envelope → Bool → Row
   ping_row x false = refused_row ended.DecodeFailed cause.FrameRefused x
-  ping_row x true = cond (may_pass configs log n conn at pings) (pass_row (name_of x)) (hold_row n conn (name_of x) item.Ping)
+  ping_row x true = cond (may_pass configs log n conn at pings) (taken_row (name_of x)) (hold_row n conn (name_of x) item.Ping)
 
   abbrev pub frame_row : Envelope → Item → Row
   frame_row x (item.Frame (Some copy) frame) = message_row x copy (message_in frame (limit_at configs n))
@@ -382,7 +378,7 @@ module _ (configs : List Config) (log : List Entry) (n conn at : ℕ) (half : Ha
         | Some capacity ↦
             cond (may_pass configs log n conn at (messages c)) (deliver_row log n name half.peer copy (c, bytes) capacity) (only reply.Idle)
       ]
-  retry_row name item.Ping = cond (may_pass configs log n conn at pings) (pass_row name) (only reply.Idle)
+  retry_row name item.Ping = cond (may_pass configs log n conn at pings) (taken_row name) (only reply.Idle)
   retry_row name _ = only reply.Idle
 
   -- what is held comes first, and while it is held no frame is taken

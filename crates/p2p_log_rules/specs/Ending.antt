@@ -22,7 +22,7 @@ use Rattle.p2p_log_rules.specs.Dropping.{other_side}
 -- what is emptied with a connection, in order: what it has yet to write, what it holds, what it is told, and what is in flight towards it
 abbrev pub queues_with : ℕ → ℕ → Half → List Queue
 queues_with n conn half =
-    queue.High n conn ∷ queue.Low n conn ∷ queue.Held n conn ∷ queue.Control n conn ∷ queue.Ready n conn
+    queue.High n conn ∷ queue.Low n conn ∷ queue.Held n conn ∷ queue.Control n conn ∷ queue.RouterAnswer n conn
     ∷ queue.Link half.link (other_side half.writes) ∷ []
 
 -- the copies of an item that was taken are dropped for this cause

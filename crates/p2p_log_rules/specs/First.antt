@@ -113,7 +113,7 @@ inputs configs log at (tracker n) = ready (is_some_of (due_keys key_cmp (rules_a
 inputs configs log at (router n) = oldest log (queue.Router n) ∷ []
 inputs configs log at (spawner n) = oldest log (queue.Spawner n) ∷ []
 inputs configs log at (dialer n) = oldest log (queue.Dialer n) ∷ ready (not (dials_of configs log n).is_asking && nat_le (dials_of configs log n).deadline at) due ∷ []
-inputs configs log at (listener n) = oldest log (queue.Update n) ∷ oldest log (queue.Arrivals n) ∷ []
+inputs configs log at (listener n) = oldest log (queue.Addresses n) ∷ oldest log (queue.Arrivals n) ∷ []
 inputs configs log at (attempt n k) = oldest log (queue.Attempt n k) ∷ ready (attempt_due (attempts_of configs log n k) at) due ∷ []
 inputs configs log at (handshake n h) = oldest log (queue.Handshake n h) ∷ ready (is_due (handshake_deadline configs log h n) at (is_finished log n h)) due ∷ []
 -- one that runs has taken its router's answer; a batch has at least one message
@@ -122,7 +122,7 @@ inputs configs log at (sender n conn) =
     (cond (is_running log n conn)
     (ready (ping_is_due configs log n conn at) due
     ∷ only_where (nat_lt 0 (batch_size_at configs n)) (oldest log (queue.Control n conn) ∷ oldest log (queue.High n conn) ∷ oldest log (queue.Low n conn) ∷ []))
-    (oldest log (queue.Ready n conn) ∷ []))
+    (oldest log (queue.RouterAnswer n conn) ∷ []))
     (Some begins ∷ [])
 inputs configs log at (receiver n conn) =
     only_where (is_running log n conn) (held_inputs (is_admitted configs log n conn at) (queue.Held n conn) (line log (queue.Held n conn)) (link_inputs log (live_half log n conn)))

@@ -25,21 +25,25 @@ capacity configs log (queue.Low n conn) = Some (mailbox_size_at configs n)
 capacity configs log (queue.Control n conn) = Some (mailbox_size_at configs n)
 capacity configs log (queue.Channel n c) = capacity_in (channels configs log n) c
 capacity configs log (queue.Peers n c) = Some 1
-capacity configs log (queue.Update n) = Some 1
+capacity configs log (queue.Addresses n) = Some 1
 capacity configs log (queue.Blocked n e) = Some 1
-capacity configs log (queue.Ready n conn) = None
+capacity configs log (queue.RouterAnswer n conn) = None
 capacity configs log (queue.Link link s) = None
 capacity configs log (queue.Held n conn) = None
 capacity configs log (queue.Dialer n) = None
 capacity configs log (queue.Attempt n k) = None
 capacity configs log (queue.Arrivals n) = None
 capacity configs log (queue.Handshake n h) = None
-capacity configs log (queue.Answer n e) = None
-capacity configs log (queue.Updates n e) = None
+capacity configs log (queue.PeerSet n e) = None
+capacity configs log (queue.PeerSetUpdates n e) = None
+
+-- whether so many items are all that a queue takes
+abbrev pub is_reached : Option ℕ → ℕ → Bool
+is_reached None count = false
+is_reached (Some size) count = nat_le size count
 
 abbrev pub holds_all : Option ℕ → List Envelope → Bool
-holds_all None xs = false
-holds_all (Some size) xs = nat_le size (length xs)
+holds_all o xs = is_reached o (length xs)
 
 abbrev pub is_full : List Config → List Entry → Queue → Bool
 is_full configs log q = holds_all (capacity configs log q) (line log q)

@@ -10,10 +10,10 @@ use Rattle.p2p_log.specs.declared.entry.Entry.{Entry}
 use Rattle.p2p_log.specs.declared.entry.Reply.TheVariants as reply
 use Rattle.p2p_log.specs.Lines.{name_of, line}
 use Rattle.p2p_log_rules.specs.declared.row.Row.{Row}
-use Rattle.p2p_log_rules.specs.Attempting.{dial_rules_at, left_ends, gone_on_row, ready_row}
+use Rattle.p2p_log_rules.specs.Attempting.{dial_rules_at, left_ends, handed_on_row}
 use Rattle.p2p_log_rules.specs.Facts.{moment_at}
 use Rattle.p2p_log_rules.specs.Handshakes.{is_handshaking, is_finished, Peer, peer_at}
-use Rattle.p2p_log_rules.specs.Rows.{only, is_spawner_full}
+use Rattle.p2p_log_rules.specs.Rows.{only, is_spawner_full, taken_row}
 
 -- the moment at which a handshake ends, where its keys were not exchanged
 abbrev pub handshake_deadline : List Config → List Entry → ℕ → ℕ → ℕ
@@ -31,9 +31,9 @@ exchanged_row n handshake key name =
 -- by what it took, and by whether its node's spawner is full: where its peer may connect, it goes on; where keys were exchanged, it asks for
 -- its peer; and where that is reserved, a connection is to be made
 abbrev pub handshake_took_row : ℕ → Bool → ℕ → Peer → ℕ × ℕ → Item → List Envelope → Row
-handshake_took_row n full handshake peer name (item.Acceptable true) left = gone_on_row name
+handshake_took_row n full handshake peer name (item.Acceptable true) left = taken_row name
 handshake_took_row n full handshake peer name (item.Finished true) left = exchanged_row n handshake peer.key name
-handshake_took_row n full handshake peer name (item.Listen (Some key)) left = ready_row n full key peer.link name left
+handshake_took_row n full handshake peer name (item.Listen (Some key)) left = handed_on_row n full key peer.link name left
 handshake_took_row n full handshake peer name _ left = ended_row (name ∷ []) left
 
 -- whether its deadline has come, which stands still once keys were exchanged

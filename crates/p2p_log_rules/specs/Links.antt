@@ -56,9 +56,9 @@ is_dialed key None = false
 is_dialed key (Some dialed) = dialed.0 == key.0
 
 -- whether the handshake at the listening end took that its peer may connect
-abbrev pub accepts : List Entry → ℕ → Option ListeningEnd → Bool
-accepts log n (Some (listening.Handshake h)) = is_accepted log n h
-accepts log n _ = false
+abbrev pub accepts_peer : List Entry → ℕ → Option ListeningEnd → Bool
+accepts_peer log n (Some (listening.Handshake h)) = is_accepted log n h
+accepts_peer log n _ = false
 
 -- whether keys were exchanged, by whether both ends stand over a link that was not cut, whether it is said so and the key is the one that was dialed, and whether the
 -- listening side has accepted: it waits for that
@@ -85,7 +85,7 @@ finished_row o dialing listening (Some ok) =
 -- whether both ends stand and the link was not cut, and what is said of the keys agrees with them, by the key that was dialed
 abbrev pub verdict : List Config → List Entry → Bool → ℕ → Bool → Option Key → Option ListeningEnd → Option Bool
 verdict configs log ok to cut dialed listening =
-    exchanged ((is_some dialed && is_some listening) && not cut) (ok && is_dialed (key_at configs to) dialed) (accepts log to listening)
+    exchanged ((is_some dialed && is_some listening) && not cut) (ok && is_dialed (key_at configs to) dialed) (accepts_peer log to listening)
 
 abbrev pub finish_by : List Config → List Entry → Bool → Bool → Opening → Option Attempt → Option ListeningEnd → Row
 finish_by configs log ok cut o dialing listening =

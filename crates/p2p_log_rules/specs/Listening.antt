@@ -22,7 +22,7 @@ use Rattle.p2p_log_rules.specs.Facts.{is_up}
 use Rattle.p2p_log_rules.specs.Handshakes.{handshakes_of}
 use Rattle.p2p_log_rules.specs.Judged.{is_counted, passed_address, passed_subnet}
 pub use Rattle.p2p_log_rules.specs.Quotas.{quota_of}
-use Rattle.p2p_log_rules.specs.Rows.{only}
+use Rattle.p2p_log_rules.specs.Rows.{only, taken_row}
 use Rattle.p2p_log_rules.specs.Tellings.{Telling, last_or}
 use Rattle.p2p_log_rules.specs.Tellings as telling
 use Rattle.p2p_log_rules.specs.Told.{told}
@@ -111,7 +111,7 @@ arrival_turn rules known place n entry at (x ∷ xs) = arrived_row rules known p
 -- an update first, and then the oldest arrival
 abbrev pub listener_turn : GateRules → Known → Bool → ℕ → ℕ → ℕ → List Envelope → List Envelope → Row
 listener_turn rules known place n entry at [] arrivals = arrival_turn rules known place n entry at arrivals
-listener_turn rules known place n entry at (x ∷ xs) arrivals = record { reply = reply.Ok; takes = name_of x ∷ []; puts = []; ends = [] }
+listener_turn rules known place n entry at (x ∷ xs) arrivals = taken_row (name_of x)
 
 -- a handshake more may run
 abbrev pub has_place : List Config → List Entry → ℕ → Bool
@@ -121,5 +121,5 @@ abbrev pub listener_row : List Config → List Entry → ℕ → ℕ → Row
 listener_row configs log n at =
     cond (is_up log n)
     (listener_turn (gate_rules_at configs n) (known_of configs log n) (has_place configs log n) n (length log) at
-    (line log (queue.Update n)) (line log (queue.Arrivals n)))
+    (line log (queue.Addresses n)) (line log (queue.Arrivals n)))
     (only reply.Gone)

@@ -47,5 +47,5 @@ arrival_link _ = None
 
 -- whether it is a router's answer to a connection
 abbrev pub is_answer : Item → Bool
-is_answer item.Answer = true
+is_answer item.RouterAnswer = true
 is_answer _ = false

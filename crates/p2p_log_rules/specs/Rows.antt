@@ -18,10 +18,14 @@ use Rattle.p2p_log.specs.Lines.{name_of, stands_in, stays, ended_item}
 abbrev pub only : Reply → Row
 only r = record { reply = r; takes = []; puts = []; ends = [] }
 
+-- the item of this name is taken, and nothing else happens
+abbrev pub taken_row : ℕ × ℕ → Row
+taken_row name = record { reply = reply.Ok; takes = name ∷ []; puts = []; ends = [] }
+
 -- the oldest of these is taken, where there is one
 abbrev pub takes_oldest : List Envelope → Row
 takes_oldest [] = only reply.Idle
-takes_oldest (x ∷ _) = record { reply = reply.Ok; takes = name_of x ∷ []; puts = []; ends = [] }
+takes_oldest (x ∷ _) = taken_row (name_of x)
 
 -- whether no more connections may wait for a node's spawner
 abbrev pub is_spawner_full : List Config → List Entry → ℕ → Bool

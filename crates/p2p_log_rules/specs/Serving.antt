@@ -1,4 +1,4 @@
--- What each actor's step makes of its first input; the end of a link of which it lets go then is in `Dropping`.
+-- What each actor's step makes of its first input, with the end of a link of which it lets go then.
 use Rattle.std.specs.Prelude.{ℕ, ◌-◌, Bool, true, false, nat_lt, List, [], ◌∷◌, filter, length, Option, Some, None}
 use Rattle.p2p_tracker_calls.specs.declared.call.Call.TheVariants as call
 use Rattle.p2p_log.specs.declared.config.Config.{Config}
@@ -14,7 +14,7 @@ use Rattle.p2p_log_rules.specs.Attempting.{Attempt, dial_rules_at, attempts_of, 
 use Rattle.p2p_log_rules.specs.Connections.{live_half, is_ended}
 use Rattle.p2p_log_rules.specs.Cutting.{is_broken}
 use Rattle.p2p_log_rules.specs.Dialing.{Dials, dials_of, due_row, answer_taken_row}
-use Rattle.p2p_log_rules.specs.Dropping.{other_side}
+use Rattle.p2p_log_rules.specs.Dropping.{other_side, attempt_drops, handshake_drops, listener_drops}
 use Rattle.p2p_log_rules.specs.Effect.{route_row, batch_size_at, batch, written_row, begin_row, frame_row, retry_row}
 use Rattle.p2p_log_rules.specs.Effect as effect
 use Rattle.p2p_log_rules.specs.Ending.{end_row}
@@ -23,9 +23,9 @@ use Rattle.p2p_log_rules.specs.Handshakes.{Peer, peer_at}
 use Rattle.p2p_log_rules.specs.Handshaking.{ended_row}
 use Rattle.p2p_log_rules.specs.Handshaking as handshaking
 use Rattle.p2p_log_rules.specs.Listening.{gate_rules_at, known_of, has_place, arrived_row}
-use Rattle.p2p_log_rules.specs.Rows.{only, is_spawner_full}
+use Rattle.p2p_log_rules.specs.Rows.{only, taken_row, is_spawner_full}
 use Rattle.p2p_log_rules.specs.TrackerPuts.{unblocked_puts, item_puts, heeded}
-use Rattle.p2p_log_rules.specs.TrackerRows.{tracker_told_row, taken_row}
+use Rattle.p2p_log_rules.specs.TrackerRows.{tracker_told_row}
 use Rattle.p2p_log_rules.specs.Tracking.{rules_at, calls_of, update_subscriptions, blocked_subscriptions}
 
 -- ---- each actor: what it makes of each of its inputs
@@ -45,7 +45,7 @@ router_serves configs log n (takes q x rest) = route_row configs log n (name_of 
 router_serves configs log n _ = only reply.Idle
 
 abbrev pub spawner_serves : Input → Row
-spawner_serves (takes q x rest) = taken_row reply.Ok x
+spawner_serves (takes q x rest) = taken_row (name_of x)
 spawner_serves _ = only reply.Idle
 
 -- a dialer: an answer; else its deadline has come
@@ -55,7 +55,7 @@ dialer_serves n seed d _ = due_row n d.peers
 
 -- a listener: an update, or an arrival
 abbrev pub listener_serves : List Config → List Entry → ℕ → ℕ → Input → Row
-listener_serves configs log n at (takes (queue.Update m) x rest) = taken_row reply.Ok x
+listener_serves configs log n at (takes (queue.Addresses m) x rest) = taken_row (name_of x)
 listener_serves configs log n at (takes q x rest) =
     arrived_row (gate_rules_at configs n) (known_of configs log n) (has_place configs log n) n (length log) at (name_of x) x.item
 listener_serves configs log n at _ = only reply.Idle
@@ -75,7 +75,7 @@ handshake_serves n full name peer _ = ended_row [] []
 abbrev pub sender_serves : List Config → List Entry → ℕ → ℕ → Option Half → Input → Row
 sender_serves configs log n conn None i = only reply.Gone
 sender_serves configs log n conn (Some half) begins = begin_row n conn half.peer
-sender_serves configs log n conn (Some half) (takes (queue.Ready m e) x rest) = taken_row reply.Ok x
+sender_serves configs log n conn (Some half) (takes (queue.RouterAnswer m e) x rest) = taken_row (name_of x)
 sender_serves configs log n conn (Some half) (takes (queue.Control m e) x rest) = end_row log n conn half ended.Killed cause.ConnectionEnded (x ∷ [])
 sender_serves configs log n conn (Some half) (takes q x rest) =
     written_row log n conn half (is_broken log half.link (other_side half.writes)) false (batch log n conn (batch_size_at configs n))
@@ -99,9 +99,11 @@ serves configs log at seed (tracker n) = tracker_serves configs log n at
 serves configs log at seed (router n) = router_serves configs log n
 serves configs log at seed (spawner n) = spawner_serves
 serves configs log at seed (dialer n) = dialer_serves n seed (dials_of configs log n)
-serves configs log at seed (listener n) = listener_serves configs log n at
-serves configs log at seed (attempt n k) = attempt_serves n (is_spawner_full configs log n) (dial_rules_at configs n).private seed (attempts_of configs log n k)
-serves configs log at seed (handshake n h) = handshake_serves n (is_spawner_full configs log n) h (peer_at log h)
+serves configs log at seed (listener n) = λ i. listener_drops log n (listener_serves configs log n at i)
+serves configs log at seed (attempt n k) =
+    λ i. attempt_drops log k n (attempt_serves n (is_spawner_full configs log n) (dial_rules_at configs n).private seed (attempts_of configs log n k) i)
+serves configs log at seed (handshake n h) =
+    λ i. handshake_drops log (peer_at log h).link (line log (queue.Handshake n h)) (handshake_serves n (is_spawner_full configs log n) h (peer_at log h) i)
 serves configs log at seed (sender n conn) = sender_serves configs log n conn (live_half log n conn)
 serves configs log at seed (receiver n conn) = receiver_serves configs log n conn at (live_half log n conn)
 

@@ -49,7 +49,7 @@ with_half n conn (Some half) = queues_with n conn half
 -- what is emptied with a node, in order. What its readers and those who asked it may still take is not
 abbrev pub queues_at : List Entry → ℕ → List Queue
 queues_at log n =
-    queue.Router n ∷ queue.Tracker n ∷ queue.Spawner n ∷ queue.Arrivals n ∷ queue.Update n ∷ queue.Dialer n
+    queue.Router n ∷ queue.Tracker n ∷ queue.Spawner n ∷ queue.Arrivals n ∷ queue.Addresses n ∷ queue.Dialer n
     ∷ (flat_map (with_attempt log n) (attempts_in (told log) n)
     ++ (flat_map (with_handshake log n) (handshakes_of log n)
     ++ flat_map (λ conn. with_half n conn (half_at log n conn)) (connections_in (told log) n)))

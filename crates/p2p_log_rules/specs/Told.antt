@@ -46,9 +46,9 @@ pub record Begun : Type 0 where
   pub ingress : Ingress
   pub at : ℕ
 
-abbrev pub begins : ℕ → ℕ → Telling → Option Begun
-begins n k (telling.attempt_begun m j key ingress at) = cond ((m == n) && (k == j)) (Some (record { key = key; ingress = ingress; at = at })) None
-begins n k _ = None
+abbrev pub begun_as : ℕ → ℕ → Telling → Option Begun
+begun_as n k (telling.attempt_begun m j key ingress at) = cond ((m == n) && (k == j)) (Some (record { key = key; ingress = ingress; at = at })) None
+begun_as n k _ = None
 
 abbrev pub ends : ℕ → ℕ → Telling → Bool
 ends n k (telling.attempt_ended m j) = (m == n) && (k == j)
@@ -65,7 +65,7 @@ opened_since n k (Some l) = cond (list_any (ends n k) l.since) None (last_or Non
 
 -- that of an attempt that has not ended
 abbrev pub link_in : List Telling → ℕ → ℕ → Option ℕ
-link_in ts n k = opened_since n k (last_told (begins n k) ts)
+link_in ts n k = opened_since n k (last_told (begun_as n k) ts)
 
 -- ---- what an entry tells
 
@@ -194,8 +194,8 @@ abbrev pub stops_node : ℕ → Telling → Bool
 stops_node n (telling.node_stopped m) = m == n
 stops_node n _ = false
 
-abbrev pub unless_stopped : List Telling → ℕ → List Telling → List Telling
-unless_stopped ts n us = when (not (list_any (stops_node n) ts)) us
+abbrev pub told_unless_stopped : List Telling → ℕ → List Telling → List Telling
+told_unless_stopped ts n us = when (not (list_any (stops_node n) ts)) us
 
 -- ---- what a stop tells: what ends with its node, and that each end of a link that was had there is dropped
 
@@ -264,9 +264,9 @@ stop_tells ts before n =
 -- after these tellings and entries, with this name, at a moment and with a seed; of this reply, which took and put these
 module _ (ts : List Telling) (before : List Entry) (name at seed : ℕ) (r : Reply) (items : List Item) (puts : List (Queue × Item)) where
   abbrev pub act_tells : Act → List Telling
-  act_tells (act.Register c n rate) = unless_stopped ts n (telling.channel_registered n c rate ∷ [])
-  act_tells (act.Start n) = unless_stopped ts n (telling.node_started n at ∷ [])
-  act_tells (act.Stop by_start n) = unless_stopped ts n (stop_tells ts before n)
+  act_tells (act.Register c n rate) = told_unless_stopped ts n (telling.channel_registered n c rate ∷ [])
+  act_tells (act.Start n) = told_unless_stopped ts n (telling.node_started n at ∷ [])
+  act_tells (act.Stop by_start n) = told_unless_stopped ts n (stop_tells ts before n)
   act_tells (act.Send bytes c n priority to) = telling.sends_admitted n c at (admitted_in ts n c at to) ∷ []
   act_tells (act.Check c n to) = telling.sends_admitted n c at (admitted_in ts n c at to) ∷ check_tells n name c r
   act_tells (act.SendChecked bytes check priority) = telling.check_spent check ∷ []

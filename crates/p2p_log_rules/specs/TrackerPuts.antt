@@ -48,7 +48,7 @@ module _ (n : ℕ) where
   -- the latest peer sets for each of these subscriptions, where there is one
   abbrev pub update_puts : List ℕ → Option (PeerSetUpdate Key) → List Put
   update_puts es None = []
-  update_puts es (Some u) = map (λ e. (queue.Updates n e, item.Update u)) es
+  update_puts es (Some u) = map (λ e. (queue.PeerSetUpdates n e, item.PeerSetUpdate u)) es
 
   -- the blocked keys for each of these subscriptions
   abbrev pub set_puts : List ℕ → List Key → List Put
@@ -57,7 +57,7 @@ module _ (n : ℕ) where
 module _ (rules : Rules Key) (n at : ℕ) where
   -- the addresses from which peers may come after these calls
   abbrev pub heard_put : List (Call Key) → Put
-  heard_put calls = (queue.Update n, item.Addresses (heard_addresses key_cmp rules calls at))
+  heard_put calls = (queue.Addresses n, item.Addresses (heard_addresses key_cmp rules calls at))
 
   -- the kills of the keys whose address changes, each by the calls before it
   abbrev pub overwrite_kills : List (Key × Address) → List (Call Key) → List Put
@@ -94,7 +94,7 @@ module _ (rules : Rules Key) (n at : ℕ) (updates sets : List ℕ) (calls : Lis
       overwrite_kills rules n at peers calls
       ++ cond (is_some_of (overwritten_keys key_cmp rules peers calls)) (heard_put rules n at (overwritten peers calls) ∷ []) []
   asked_puts e (Some (act.Ask (ask.Block key) m)) = blocked_puts rules n at updates sets calls (call.Block key at) key
-  asked_puts e (Some (act.Ask (ask.PeerSet index) m)) = (queue.Answer n e, item.PeerSet (peer_set_of key_cmp rules calls index)) ∷ []
+  asked_puts e (Some (act.Ask (ask.PeerSet index) m)) = (queue.PeerSet n e, item.PeerSet (peer_set_of key_cmp rules calls index)) ∷ []
   asked_puts e (Some (act.Ask ask.Subscribe m)) = update_puts n (e ∷ []) (latest_update key_cmp rules calls)
   asked_puts e (Some (act.Ask ask.Blocked m)) = set_puts n (e ∷ []) (blocked_keys key_cmp rules calls at)
   asked_puts e _ = []

@@ -74,7 +74,7 @@ ask_row configs log n _ = asked_row configs log n
 
 -- the queue, where it holds one item: the next one overwrites it
 abbrev pub ring_of : Queue → List Queue
-ring_of (queue.Update n) = queue.Update n ∷ []
+ring_of (queue.Addresses n) = queue.Addresses n ∷ []
 ring_of (queue.Blocked n e) = queue.Blocked n e ∷ []
 ring_of _ = []
 
@@ -108,33 +108,33 @@ tracker_row configs log n at = cond (is_up log n) (tracker_step configs log n at
 -- ---- what those who asked take
 
 -- that the answer to a question was given
-abbrev pub answers : ℕ → Telling → Bool
-answers e (telling.question_answered d) = d == e
-answers e _ = false
+abbrev pub gives_answer : ℕ → Telling → Bool
+gives_answer e (telling.question_answered d) = d == e
+gives_answer e _ = false
 
 -- whether it was
 unfoldable pub was_answered : List Entry → ℕ → Bool
-was_answered log e = list_any (answers e) (told log)
+was_answered log e = list_any (gives_answer e) (told log)
 
-abbrev pub taken_row : Reply → Envelope → Row
-taken_row r x = record { reply = r; takes = name_of x ∷ []; puts = []; ends = [] }
+abbrev pub taken_with : Reply → Envelope → Row
+taken_with r x = record { reply = r; takes = name_of x ∷ []; puts = []; ends = [] }
 
 -- what a reader is told of an item
 abbrev pub told_of : Item → Reply
 told_of (item.PeerSet peers) = reply.PeerSet peers
-told_of (item.Update update) = reply.Update update
+told_of (item.PeerSetUpdate update) = reply.Update update
 told_of (item.Blocked keys) = reply.Blocked keys
 told_of _ = reply.Pending
 
 -- the oldest item of a queue, or this reply
 abbrev pub oldest_row : Reply → List Envelope → Row
 oldest_row empty [] = only empty
-oldest_row empty (x ∷ _) = taken_row (told_of x.item) x
+oldest_row empty (x ∷ _) = taken_with (told_of x.item) x
 
 -- the answer was taken, or is there, or is awaited: from a node that has stopped there is none to come
 abbrev pub answer_at : List Entry → ℕ → ℕ → Row
 answer_at log n e =
-    cond (was_answered log e) (only reply.Gone) (oldest_row (cond (is_stopped log n) (reply.PeerSet None) reply.Pending) (line log (queue.Answer n e)))
+    cond (was_answered log e) (only reply.Gone) (oldest_row (cond (is_stopped log n) (reply.PeerSet None) reply.Pending) (line log (queue.PeerSet n e)))
 
 -- by what the event of the question asked
 abbrev pub answer_by : List Entry → ℕ → Option Act → Row
@@ -149,7 +149,7 @@ abbrev pub none_next : List Entry → ℕ → Reply
 none_next log n = cond (is_stopped log n) reply.StreamEnded reply.Pending
 
 abbrev pub next_by : List Entry → ℕ → Option Act → Row
-next_by log e (Some (act.Ask ask.Subscribe n)) = oldest_row (none_next log n) (line log (queue.Updates n e))
+next_by log e (Some (act.Ask ask.Subscribe n)) = oldest_row (none_next log n) (line log (queue.PeerSetUpdates n e))
 next_by log e (Some (act.Ask ask.Blocked n)) = oldest_row (none_next log n) (line log (queue.Blocked n e))
 next_by log e _ = only reply.Gone
 

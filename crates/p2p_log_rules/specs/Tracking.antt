@@ -15,8 +15,8 @@ pub use Rattle.p2p_log_rules.specs.Quotas.{key_cmp}
 pub use Rattle.p2p_log_rules.specs.Tracked.{asked_by, grants_peer}
 
 -- what a node's tracker is made with
-abbrev pub rules_of : Config → Rules Key
-rules_of c = record {
+abbrev pub tracker_rules_of : Config → Rules Key
+tracker_rules_of c = record {
   local = c.public_key;
   max_sets = c.tracked_peer_sets;
   cooldown = c.peer_connection_cooldown;
@@ -30,7 +30,7 @@ abbrev pub no_rules : Rules Key
 no_rules = record { local = record { 0 = 0 }; max_sets = 0; cooldown = 0; block_duration = 0; private = false; dns = false; bypass = false }
 
 abbrev pub rules_at : List Config → ℕ → Rules Key
-rules_at configs n = elim (slice_get configs n) [ None ↦ no_rules | Some c ↦ rules_of c ]
+rules_at configs n = elim (slice_get configs n) [ None ↦ no_rules | Some c ↦ tracker_rules_of c ]
 
 -- ---- the calls of its directory
 

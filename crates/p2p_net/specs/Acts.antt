@@ -12,7 +12,7 @@ use Rattle.p2p_net_tracker.specs.Reading.{Answers, Continues}
 use Rattle.p2p_net_tracker.specs.declared.tracker.Tracker.{Tracker}
 use Rattle.p2p_net_node.specs.Staying.{Stays, Tracks, TellsAttempt}
 use Rattle.p2p_net_connecting.specs.Connecting.{SendSteps}
-use Rattle.p2p_net_node.specs.Ready.{is_started}
+use Rattle.p2p_net_node.specs.Ready.{is_node_up}
 use Rattle.p2p_net_calls.specs.Offering.{Sends, Checks, SendsChecked}
 use Rattle.p2p_net_connecting.specs.Receiving.{RecvSteps}
 use Rattle.p2p_net_node.specs.declared.node.Node.{Node}
@@ -40,11 +40,11 @@ NodeDoes k n at seed (act.Cut link) old new l links r = Stays old new r (only re
 NodeDoes k n at seed (act.Ask what m) old new l links r = Asks n k what old new r × (links ≡ l)
 NodeDoes k n at seed (act.Answer e) old new l links r = (Answers old.stopped n e old.tracker new.tracker r × Tracks new.tracker old new) × (links ≡ l)
 NodeDoes k n at seed (act.Next e) old new l links r = (Continues old.stopped n e old.tracker new.tracker r × Tracks new.tracker old new) × (links ≡ l)
-NodeDoes k n at seed (act.Tracker m) old new l links r = TrackerStepsBy (is_started old) k n at seed old new r × (links ≡ l)
-NodeDoes k n at seed (act.Dialer m) old new l links r = DialerStepsBy (is_started old) k n at seed old new r × (links ≡ l)
-NodeDoes k n at seed (act.Listener m) old new l links r = ListenerStepsBy (is_started old) k n at old new l links r
+NodeDoes k n at seed (act.Tracker m) old new l links r = TrackerStepsBy (is_node_up old) k n at seed old new r × (links ≡ l)
+NodeDoes k n at seed (act.Dialer m) old new l links r = DialerStepsBy (is_node_up old) k n at seed old new r × (links ≡ l)
+NodeDoes k n at seed (act.Listener m) old new l links r = ListenerStepsBy (is_node_up old) k n at old new l links r
 NodeDoes k n at seed (act.Handshake e m) old new l links r = HandshakeSteps k n e at old new l links r
-NodeDoes k n at seed (act.Spawner m) old new l links r = SpawnerStepsBy (is_started old) k old new r × (links ≡ l)
+NodeDoes k n at seed (act.Spawner m) old new l links r = SpawnerStepsBy (is_node_up old) k old new r × (links ≡ l)
 NodeDoes k n at seed (act.Attempt e m) old new l links r = AttemptSteps k n e at seed old new l links r
 NodeDoes k n at seed (act.Resolve addresses e m) old new l links r =
     (Resolves (table.at old.dialing.attempts e) k n e addresses old.dialing.attempts new.dialing.attempts r × TellsAttempt old new) × (links ≡ l)

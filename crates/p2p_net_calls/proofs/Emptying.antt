@@ -144,18 +144,18 @@ drains_both n qs ps old mid new l between links row made after first second item
 
 -- ---- by the part that has it
 
-pub without_update : (n : ℕ) (x : Node) (l : Links) (t : Tracker) (items : List Envelope) → NodeLeft n x l items → TrackerLeft n t (without (queue.Update n) items) → NodeLeft n (record x { tracker = t }) l (without (queue.Update n) items)
+pub without_update : (n : ℕ) (x : Node) (l : Links) (t : Tracker) (items : List Envelope) → NodeLeft n x l items → TrackerLeft n t (without (queue.Addresses n) items) → NodeLeft n (record x { tracker = t }) l (without (queue.Addresses n) items)
 without_update n x l t items h told = record {
-  apart = AreApart-without (queue.Update n) items h.apart;
-  bare = Each-filter IsBare (stays (map name_of (filter (stands_in (queue.Update n)) items))) items h.bare;
+  apart = AreApart-without (queue.Addresses n) items h.apart;
+  bare = Each-filter IsBare (stays (map name_of (filter (stands_in (queue.Addresses n)) items))) items h.bare;
   number = h.number;
-  router = router_left_other x.router (queue.Update n) items refl h.apart h.router;
+  router = router_left_other x.router (queue.Addresses n) items refl h.apart h.router;
   tracker = told;
-  dialer = dialer_left_other n x.dialing items (queue.Update n) (λ j. refl) h.apart h.dialer;
-  arrivals = h.arrivals ∙ ap (map name_of) (sym (line_kept (queue.Update n) (queue.Arrivals n) items h.apart refl));
-  spawner = spawner_left_other n x.spawning (queue.Update n) items refl h.apart h.spawner;
-  connections = connections_left_other n x.connections (queue.Update n) items (λ c. refl) (λ c. refl) h.apart h.connections;
-  links = links_left_other l (queue.Update n) items (λ link s. (elim s as (λ t. same_queue (queue.Link link t) (queue.Update n) ≡ false) [ side.Out ↦ refl | side.In ↦ refl ])) h.apart h.links;
+  dialer = dialer_left_other n x.dialing items (queue.Addresses n) (λ j. refl) h.apart h.dialer;
+  arrivals = h.arrivals ∙ ap (map name_of) (sym (line_kept (queue.Addresses n) (queue.Arrivals n) items h.apart refl));
+  spawner = spawner_left_other n x.spawning (queue.Addresses n) items refl h.apart h.spawner;
+  connections = connections_left_other n x.connections (queue.Addresses n) items (λ c. refl) (λ c. refl) h.apart h.connections;
+  links = links_left_other l (queue.Addresses n) items (λ link s. (elim s as (λ t. same_queue (queue.Link link t) (queue.Addresses n) ≡ false) [ side.Out ↦ refl | side.In ↦ refl ])) h.apart h.links;
 }
 
 pub without_dialer : (n : ℕ) (x : Node) (l : Links) (t : Tracker) (items : List Envelope) → NodeLeft n x l items → TrackerLeft n t (without (queue.Dialer n) items) → NodeLeft n (record x { tracker = t }) l (without (queue.Dialer n) items)
@@ -284,18 +284,18 @@ without_held n k x l cs items h waits = record {
   links = links_left_other l (queue.Held n k) items (λ link s. (elim s as (λ t. same_queue (queue.Link link t) (queue.Held n k) ≡ false) [ side.Out ↦ refl | side.In ↦ refl ])) h.apart h.links;
 }
 
-pub without_answers : (n k : ℕ) (x : Node) (l : Links) (cs : Connections) (items : List Envelope) → NodeLeft n x l items → ConnectionsLeft n cs (without (queue.Ready n k) items) → NodeLeft n (record x { connections = cs }) l (without (queue.Ready n k) items)
+pub without_answers : (n k : ℕ) (x : Node) (l : Links) (cs : Connections) (items : List Envelope) → NodeLeft n x l items → ConnectionsLeft n cs (without (queue.RouterAnswer n k) items) → NodeLeft n (record x { connections = cs }) l (without (queue.RouterAnswer n k) items)
 without_answers n k x l cs items h waits = record {
-  apart = AreApart-without (queue.Ready n k) items h.apart;
-  bare = Each-filter IsBare (stays (map name_of (filter (stands_in (queue.Ready n k)) items))) items h.bare;
+  apart = AreApart-without (queue.RouterAnswer n k) items h.apart;
+  bare = Each-filter IsBare (stays (map name_of (filter (stands_in (queue.RouterAnswer n k)) items))) items h.bare;
   number = h.number;
-  router = router_left_other x.router (queue.Ready n k) items refl h.apart h.router;
-  tracker = tracker_left_other n x.tracker items (queue.Ready n k) refl refl h.apart h.tracker;
-  dialer = dialer_left_other n x.dialing items (queue.Ready n k) (λ j. refl) h.apart h.dialer;
-  arrivals = h.arrivals ∙ ap (map name_of) (sym (line_kept (queue.Ready n k) (queue.Arrivals n) items h.apart refl));
-  spawner = spawner_left_other n x.spawning (queue.Ready n k) items refl h.apart h.spawner;
+  router = router_left_other x.router (queue.RouterAnswer n k) items refl h.apart h.router;
+  tracker = tracker_left_other n x.tracker items (queue.RouterAnswer n k) refl refl h.apart h.tracker;
+  dialer = dialer_left_other n x.dialing items (queue.RouterAnswer n k) (λ j. refl) h.apart h.dialer;
+  arrivals = h.arrivals ∙ ap (map name_of) (sym (line_kept (queue.RouterAnswer n k) (queue.Arrivals n) items h.apart refl));
+  spawner = spawner_left_other n x.spawning (queue.RouterAnswer n k) items refl h.apart h.spawner;
   connections = waits;
-  links = links_left_other l (queue.Ready n k) items (λ link s. (elim s as (λ t. same_queue (queue.Link link t) (queue.Ready n k) ≡ false) [ side.Out ↦ refl | side.In ↦ refl ])) h.apart h.links;
+  links = links_left_other l (queue.RouterAnswer n k) items (λ link s. (elim s as (λ t. same_queue (queue.Link link t) (queue.RouterAnswer n k) ≡ false) [ side.Out ↦ refl | side.In ↦ refl ])) h.apart h.links;
 }
 
 -- what is in flight towards an end

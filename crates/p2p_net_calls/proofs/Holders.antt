@@ -87,9 +87,9 @@ module _ (n : ℕ) (x y : Node) (l : Links) (row mid : Row) where
       → (NodeLeft n (record x { tracker = record x.tracker { told = y.tracker.told } }) l (without q items) → NodeLeft n y l (without q items))
   told_left q items own d h k = subst (λ (z : Node). NodeLeft n z l (without q items)) (sym d.rest) k
 
-  pub update_drains : EndsTold (queue.Update n) x y row mid → Drains n (queue.Update n ∷ []) x y l l row mid
+  pub update_drains : EndsTold (queue.Addresses n) x y row mid → Drains n (queue.Addresses n ∷ []) x y l l row mid
   update_drains d =
-      let q = queue.Update n in
+      let q = queue.Addresses n in
       drains_one n q x y l l row mid
       (λ items h. (
         told_ends n q items x l row mid (here n) refl h d.ends,

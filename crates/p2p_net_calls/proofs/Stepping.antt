@@ -51,13 +51,13 @@ module _ (n conn : ℕ) (x y : Node) (high low : Router) (held ready : Connectio
         let one : Node = record x { router = high } in
         let two : Node = record x { router = low } in
         let three : Node = record x { router = low; connections = held } in
-        drains_both n (queue.High n conn ∷ []) (queue.Low n conn ∷ queue.Held n conn ∷ queue.Control n conn ∷ queue.Ready n conn ∷ []) x one (record y { connections = ready }) l l l row a after
+        drains_both n (queue.High n conn ∷ []) (queue.Low n conn ∷ queue.Held n conn ∷ queue.Control n conn ∷ queue.RouterAnswer n conn ∷ []) x one (record y { connections = ready }) l l l row a after
         (lane_drains n conn true x high l row a first)
-        (drains_both n (queue.Low n conn ∷ []) (queue.Held n conn ∷ queue.Control n conn ∷ queue.Ready n conn ∷ []) one two (record y { connections = ready }) l l l a b after
+        (drains_both n (queue.Low n conn ∷ []) (queue.Held n conn ∷ queue.Control n conn ∷ queue.RouterAnswer n conn ∷ []) one two (record y { connections = ready }) l l l a b after
         (lane_drains n conn false one low l a b second)
-        (drains_both n (queue.Held n conn ∷ []) (queue.Control n conn ∷ queue.Ready n conn ∷ []) two three (record y { connections = ready }) l l l b c after
+        (drains_both n (queue.Held n conn ∷ []) (queue.Control n conn ∷ queue.RouterAnswer n conn ∷ []) two three (record y { connections = ready }) l l l b c after
         (held_drains n conn two held l b c third holds)
-        (drains_both n (queue.Control n conn ∷ []) (queue.Ready n conn ∷ []) three y (record y { connections = ready }) l l l c d after
+        (drains_both n (queue.Control n conn ∷ []) (queue.RouterAnswer n conn ∷ []) three y (record y { connections = ready }) l l l c d after
         (control_drains n three y l c d conn told)
         (answers_drains n conn y ready l d after fifth answers))))
 

@@ -144,7 +144,7 @@ module _ (configs : List Config) (log : List Entry) (moment seed : ℕ) (by_star
         spawns = λ conn. live_connection-kept log e n conn (ends_none conn) (connections_of-untaken log e n none_taken conn);
         begins = λ conn. begins_act log e n conn (act.Stop by_start n) acts;
         receives = receives_nothing configs log e n none_taken (λ conn. stays (queue.Held n conn));
-        lines = λ conn. stays (queue.Ready n conn);
+        lines = λ conn. stays (queue.RouterAnswer n conn);
       })
   part_rests place.tracker =
       tracker_frame configs log e n x.tracker (s.each place.tracker)

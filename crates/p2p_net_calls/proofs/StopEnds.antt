@@ -43,7 +43,7 @@ module _ (log : List Entry) (n : ℕ) where
   half_none conn None = tt
   half_none conn (Some half) = (
     plain log (queue.High n conn) (λ i. refl),
-    (plain log (queue.Low n conn) (λ i. refl), (plain log (queue.Held n conn) (λ i. refl), (plain log (queue.Control n conn) (λ i. refl), (plain log (queue.Ready n conn) (λ i. refl), (plain log (queue.Link half.link (other_side half.writes)) (λ i. refl), tt))))),
+    (plain log (queue.Low n conn) (λ i. refl), (plain log (queue.Held n conn) (λ i. refl), (plain log (queue.Control n conn) (λ i. refl), (plain log (queue.RouterAnswer n conn) (λ i. refl), (plain log (queue.Link half.link (other_side half.writes)) (λ i. refl), tt))))),
   )
 
   all_none : (g : ℕ → List Queue) → ((k : ℕ) → Each Plain (g k)) → (ks : List ℕ) → Each Plain (flat_map g ks)
@@ -64,7 +64,7 @@ module _ (log : List Entry) (n : ℕ) where
   calls = queue.Router n ∷ queue.Tracker n ∷ []
 
   abbrev pub told_queues : List Queue
-  told_queues = queue.Update n ∷ queue.Dialer n ∷ []
+  told_queues = queue.Addresses n ∷ queue.Dialer n ∷ []
 
   abbrev pub last : List Queue
   last = told_queues ++ (attempts ++ (handshakes ++ connections))
@@ -74,7 +74,7 @@ module _ (log : List Entry) (n : ℕ) where
 
   last_none : Each Plain last
   last_none = (
-    plain log (queue.Update n) (λ i. refl),
+    plain log (queue.Addresses n) (λ i. refl),
     (
       plain log (queue.Dialer n) (λ i. refl),
       Each-append Plain attempts (handshakes ++ connections) (all_none (with_attempt log n) attempt_none (attempts_in (told log) n))

@@ -335,7 +335,7 @@ module _ (configs : List Config) (log : List Entry) (moment seed : ℕ) (by_star
   tracker_stands : TrackerStands configs after n y.tracker
   tracker_stands =
       tracker_stopped configs log e n x.tracker y.tracker (s.each place.tracker) tracker_emptied tracker_left
-      (stop_leaves configs log e n stop (emptied_queue (queue.Tracker n) (inr (inl refl))) (emptied_queue (queue.Update n) (inr (inr (inr (inr (inl refl))))))
+      (stop_leaves configs log e n stop (emptied_queue (queue.Tracker n) (inr (inl refl))) (emptied_queue (queue.Addresses n) (inr (inr (inr (inr (inl refl))))))
       (emptied_queue (queue.Dialer n) (inr (inr (inr (inr (inr (inl refl))))))) no_handshake_waits)
       ended
 

@@ -78,9 +78,9 @@ held_drains n conn x cs l row after is same =
     ))
 
 pub answers_drains : (n conn : ℕ) (x : Node) (cs : Connections) (l : Links) (row after : Row) → after ≡ record row { ends = row.ends ++ all_end cause.NodeStopped (waiting x.connections.answers conn) }
-    → cs ≡ record x.connections { answers = cleared_at x.connections.answers conn } → Drains n (queue.Ready n conn ∷ []) x (record x { connections = cs }) l l row after
+    → cs ≡ record x.connections { answers = cleared_at x.connections.answers conn } → Drains n (queue.RouterAnswer n conn ∷ []) x (record x { connections = cs }) l l row after
 answers_drains n conn x cs l row after is same =
-    let q = queue.Ready n conn in
+    let q = queue.RouterAnswer n conn in
     drains_one n q x (record x { connections = cs }) l l row after
     (λ items h. (
       is ∙ ap (λ xs. record row { ends = row.ends ++ all_end cause.NodeStopped xs }) (h.connections.answers conn),

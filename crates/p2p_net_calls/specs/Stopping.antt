@@ -120,7 +120,7 @@ half_side n link None = None
 half_side n link (Some dialer) = Some (link, side_at n dialer)
 
 abbrev pub waiting_queues : ℕ → ℕ → List Queue
-waiting_queues n conn = queue.High n conn ∷ queue.Low n conn ∷ queue.Held n conn ∷ queue.Control n conn ∷ queue.Ready n conn ∷ []
+waiting_queues n conn = queue.High n conn ∷ queue.Low n conn ∷ queue.Held n conn ∷ queue.Control n conn ∷ queue.RouterAnswer n conn ∷ []
 
 abbrev pub half_queues : ℕ → ℕ → Option LinkEnd → List Queue
 half_queues n conn None = []
@@ -319,7 +319,7 @@ pub record StopsRunning (n : ℕ) (old new : Node) (l links : Links) (r : Row) :
   pub arrivals_row : heard_row ≡ record spawned_row { ends = spawned_row.ends ++ handed_end spawned_links (arrivals_handed spawned.listening) }
   pub told : Node
   pub told_row : Row
-  pub told_drains : (k : Links) → Drains n (queue.Update n ∷ queue.Dialer n ∷ []) heard told k k heard_row told_row
+  pub told_drains : (k : Links) → Drains n (queue.Addresses n ∷ queue.Dialer n ∷ []) heard told k k heard_row told_row
   pub told_rest : told ≡ record heard { tracker = record heard.tracker { told = told.tracker.told } }
   pub tried : Node
   pub tried_links : Links

@@ -324,10 +324,10 @@ fn stop_mailboxes(node: &mut Node, turn: Turn, row: &mut Row) -> Result<(), Allo
 
 /// What the tracker told the listener and the dialer ends, which they did not take.
 fn stop_told(node: &mut Node, turn: Turn, row: &mut Row) -> Result<(), AllocError>
-    ensures drains { OnOk result ((l : TheLinks) → Drains turn.node (Queue.Update turn.node ∷ Queue.Dialer turn.node ∷ []) node.old node.new l l row.old row.new) }
+    ensures drains { OnOk result ((l : TheLinks) → Drains turn.node (Queue.Addresses turn.node ∷ Queue.Dialer turn.node ∷ []) node.old node.new l l row.old row.new) }
     ensures rest { OnOk result (node.new ≡ record node.old { tracker = record node.old.tracker { told = node.new.tracker.told } }) }
 {
-    end_told(node, row, Queue::Update(turn.node))?;
+    end_told(node, row, Queue::Addresses(turn.node))?;
     end_told(node, row, Queue::Dialer(turn.node))?;
     Ok(())
 }

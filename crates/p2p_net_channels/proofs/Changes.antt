@@ -18,7 +18,7 @@ use Rattle.p2p_log.specs.declared.event.Act.TheVariants as act
 use Rattle.p2p_log_rules.specs.Closing as closing
 use Rattle.p2p_log_rules.specs.Tellings.{Telling}
 use Rattle.p2p_log_rules.specs.Tellings as telling
-use Rattle.p2p_log_rules.specs.Told.{told, when, unless_stopped}
+use Rattle.p2p_log_rules.specs.Told.{told, when, told_unless_stopped}
 use Rattle.p2p_log_rules.proofs.Acted.{tells_as, collected-kept}
 use Rattle.p2p_log_rules.proofs.Channels as facts
 use Rattle.p2p_log_rules.specs.Facts.{is_stopped, stops_node, with_capacity, registers_at, rates_by, rate_told, channels, capacity_in, rates, rate_in, sum_capacities}
@@ -84,7 +84,7 @@ rates-stopped log e n over = by e.event.act refl
         elsewhere true so = ap (λ b. cond b ((c, rate) ∷ []) [] ++ []) so
         elsewhere false so = refl
 
-        here : (b : Bool) → (m == n) ≡ b → flat_map (rate_told n) (unless_stopped (told log) m told_now) ≡ []
+        here : (b : Bool) → (m == n) ≡ b → flat_map (rate_told n) (told_unless_stopped (told log) m told_now) ≡ []
         here true so = ap (λ b. flat_map (rate_told n) (when (not b) told_now)) (ap (λ k. list_any (stops_node k) (told log)) (eqb-true m n so) ∙ over)
         here false so = elsewhere (not (list_any (stops_node m) (told log))) so
     by a is = facts.rates-kept log e n (ap (rates_by n) is)

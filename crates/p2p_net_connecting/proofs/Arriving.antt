@@ -28,14 +28,14 @@ use Rattle.p2p_log_rules.specs.Facts.{events_of, latest_moment, taken, channels,
 use Rattle.p2p_log_rules.specs.Closing as closing
 use Rattle.p2p_log_rules.specs.Closing.{refused_by}
 use Rattle.p2p_log_rules.specs.Effect
-use Rattle.p2p_log_rules.specs.Effect.{only, delivered_row, deliver_row, hold_row, pass_row, frame_row, retry_row}
+use Rattle.p2p_log_rules.specs.Effect.{only, delivered_row, deliver_row, hold_row, frame_row, retry_row}
 use Rattle.p2p_log_rules.specs.Connections.{is_end}
 use Rattle.p2p_log_rules.specs.Ending.{end_row}
 use Rattle.p2p_log_rules.specs.Metering.{Metered, pings, messages, is_of, metered_by, metered_in, holds, limit_at, admitted_by, may_pass}
 use Rattle.p2p_log_rules.proofs.Connections.{steps_receiver}
 use Rattle.p2p_log_rules.proofs.Metering.{admits_one, admitted_is}
 use Rattle.p2p_log_laws.proofs.Fitting.{fits}
-use Rattle.p2p_net_queues.specs.Rows.{taken_row}
+use Rattle.p2p_log_rules.specs.Rows.{taken_row}
 use Rattle.p2p_net_channels.specs.declared.arrival.Arrived.{Arrived}
 use Rattle.p2p_net_channels.specs.declared.arrival.Arriving.{Arriving}
 use Rattle.p2p_net_channels.specs.declared.arrival.Arriving.TheVariants as arriving
@@ -171,9 +171,9 @@ module _ (configs : List Config) (log : List Entry) (n conn at : ℕ) (x : Node)
       ]) (sym (chan.capacities m.channel))
       ∙ message_settles was_held m (capacity_at x.channels m.channel) refl
 
-  ping_by : (was_held : Bool) → cond (may_pass configs log n conn at pings) (pass_row (name_of f)) (kept_row was_held arriving.Ping) ≡ came_row was_held (Some arriving.Ping)
+  ping_by : (was_held : Bool) → cond (may_pass configs log n conn at pings) (taken_row (name_of f)) (kept_row was_held arriving.Ping) ≡ came_row was_held (Some arriving.Ping)
   ping_by was_held =
-      settle was_held (may_pass configs log n conn at pings) arriving.Ping (pass_row (name_of f)) refl
+      settle was_held (may_pass configs log n conn at pings) arriving.Ping (taken_row (name_of f)) refl
       ∙ ap (λ b. settled_row was_held (Some b) arriving.Ping) (sym (may_ping_is configs log n conn at x.connections connects late))
 
   -- what is in flight is a frame

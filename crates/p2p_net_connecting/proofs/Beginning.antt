@@ -20,7 +20,7 @@ use Rattle.p2p_log.specs.Lines.{line}
 use Rattle.p2p_log.proofs.Queues.{same_queue-sym}
 use Rattle.p2p_log_rules.specs.declared.row.Half.{Half}
 use Rattle.p2p_log_rules.specs.declared.row.Row.{Row}
-use Rattle.p2p_log_rules.specs.Connections.{begins, live_connection, live_half, is_begun, is_answer, has_run, is_ended}
+use Rattle.p2p_log_rules.specs.Connections.{begins_connection, live_connection, live_half, is_begun, is_answer, has_run, is_ended}
 use Rattle.p2p_log_rules.specs.Effect.{row, effect, entry_of, begin_row, mailbox_size_at}
 use Rattle.p2p_log_rules.specs.Facts.{is_up}
 use Rattle.p2p_log_rules.proofs.Connections.{runs_is, HalfParts, half_parts, is_live, live_connection-kept, ends_none-reply}
@@ -125,7 +125,7 @@ module _ (configs : List Config) (log : List Entry) (at seed conn n : ℕ) (half
   connections_now : ConnectionsStand configs (log ++ e ∷ []) n (begun_with conn x.connections)
   connections_now =
       connections_begun configs log e n conn x.connections connects (λ c. subst (λ d. PingsWhenDue configs log d n c) (sym effect_is) (pings_by configs log n x.connections connects ev c)) (λ c. live_connection-kept log e n c (ends_none-reply log e n c refl refl) (connections_of-unmade log e n refl c)) not_running (λ c. step_begins log n conn c e refl refl)
-      (λ c. runs_is log e n c ∙ (ap (λ items. begins n c log e && list_any is_answer items) (taken-none log e refl) ∙ and_false (begins n c log e))) (receives_nothing configs log e n (taken-none log e refl) (λ c. beside (queue.Held n c) refl refl)) (λ c. beside (queue.Ready n c) refl refl)
+      (λ c. runs_is log e n c ∙ (ap (λ items. begins_connection n c log e && list_any is_answer items) (taken-none log e refl) ∙ and_false (begins_connection n c log e))) (receives_nothing configs log e n (taken-none log e refl) (λ c. beside (queue.Held n c) refl refl)) (λ c. beside (queue.RouterAnswer n c) refl refl)
 
   size_is : x.config.mailbox_size ≡ mailbox_size_at configs x.router.number
   size_is = sym (ap (λ (o : Option Config). elim o [ None ↦ 0 | Some c ↦ c.mailbox_size ]) s.own.config) ∙ ap (mailbox_size_at configs) (sym routes.number)

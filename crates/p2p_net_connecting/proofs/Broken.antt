@@ -94,7 +94,7 @@ module _ (configs : List Config) (log : List Entry) (n conn most : ℕ) (half : 
     connections = ap (λ (z : Node). z.connections) others;
     rest = subst (λ (z : Node). z ≡ record x { router = z.router; tracker = z.tracker }) (sym others) refl;
     holds = line_off (queue.Held n conn) refl refl;
-    answers = line_off (queue.Ready n conn) refl refl;
+    answers = line_off (queue.RouterAnswer n conn) refl refl;
     flight = t.waits (other_side half.writes) half.link ∙ sym (line_off (queue.Link half.link (other_side half.writes)) (high_flight (other_side half.writes)) (low_flight (other_side half.writes)));
     linked = λ e drops. links_dropped configs log e l half.link half.writes t drops;
   }

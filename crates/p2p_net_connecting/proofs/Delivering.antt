@@ -32,7 +32,7 @@ use Rattle.p2p_log_rules.proofs.Moves.{one_taken}
 use Rattle.p2p_log_rules.proofs.Spawning.{connections_of-unmade}
 use Rattle.p2p_log_laws.proofs.Fitting.{fits, StandsFit}
 use Rattle.p2p_net_queues.specs.Lines.{HoldsLines}
-use Rattle.p2p_net_queues.specs.Rows.{taken_row}
+use Rattle.p2p_log_rules.specs.Rows.{taken_row}
 use Rattle.p2p_net_queues.specs.Tables.{pushed_at, popped_at}
 use Rattle.p2p_net_queues.proofs.Holding.{TakesFirst, holds_frame}
 use Rattle.p2p_flow_connection.specs.Arriving.{with_arrival}
@@ -203,13 +203,13 @@ module _ (configs : List Config) (log : List Entry) (at seed conn n : ℕ) (half
   beside_ping due none lines = other_channels configs log n conn at (made due) late x.channels chan refl (sends_none due) (closes_none due) none lines
 
   -- the connections beside a message, by what is held then
-  beside_message : (due : Row) → is_end due.reply ≡ false → (w : List (ℕ × List Envelope)) → ((d : ℕ) → admitted_by (limit_at configs n) n d pings log (made due) ≡ []) → ((c : ℕ) → line (log ++ made due ∷ []) (queue.Ready n c) ≡ line log (queue.Ready n c))
+  beside_message : (due : Row) → is_end due.reply ≡ false → (w : List (ℕ × List Envelope)) → ((d : ℕ) → admitted_by (limit_at configs n) n d pings log (made due) ≡ []) → ((c : ℕ) → line (log ++ made due ∷ []) (queue.RouterAnswer n c) ≡ line log (queue.RouterAnswer n c))
       → HoldsLines (queue.Held n) (log ++ made due ∷ []) w → ConnectionsStand configs (log ++ made due ∷ []) n (record x.connections { held = w })
   beside_message due lives w none lines held = connections_received configs log (made due) n x.connections w connects (spawns_none due lives) (begins_none due) lines held none
 
   -- the connections after a ping, by what is held then
   pinged_connections : (due : Row) → is_end due.reply ≡ false → (w : List (ℕ × List Envelope)) → ((d : ℕ) → admitted_by (limit_at configs n) n d pings log (made due) ≡ cond ((d == conn) && may_ping x.connections conn at) (at ∷ []) [])
-      → ((c : ℕ) → line (log ++ made due ∷ []) (queue.Ready n c) ≡ line log (queue.Ready n c)) → HoldsLines (queue.Held n) (log ++ made due ∷ []) w
+      → ((c : ℕ) → line (log ++ made due ∷ []) (queue.RouterAnswer n c) ≡ line log (queue.RouterAnswer n c)) → HoldsLines (queue.Held n) (log ++ made due ∷ []) w
       → ConnectionsStand configs (log ++ made due ∷ []) n (record (ping_metered conn at x.connections) { held = w })
   pinged_connections due lives w admits lines held = connections_metered configs log (made due) n conn at x.connections w connects (spawns_none due lives) (begins_none due) lines late refl admits held
 
@@ -264,7 +264,7 @@ module _ (configs : List Config) (log : List Entry) (at seed conn n : ℕ) (half
         let beside : StillBeside due = beside_now due takes ends (λ q away. aside q (beside_channel n m.channel q away)) in
         built due (with_passed half.peer m) x.connections lives is told parts beside
         (passed_channels p f fs half.peer m h (λ q. link_channel half.link n q (other_side half.writes)) says)
-        (beside_message due lives x.connections.held (no_pings due lives p f fs m.channel false h (passed_holds why n half.peer m (name_of f))) (λ c. beside (queue.Ready n c) refl) (held_now due takes ends (λ c. aside (queue.Held n c) refl)))
+        (beside_message due lives x.connections.held (no_pings due lives p f fs m.channel false h (passed_holds why n half.peer m (name_of f))) (λ c. beside (queue.RouterAnswer n c) refl) (held_now due takes ends (λ c. aside (queue.Held n c) refl)))
         (links_now due lives takes ends (λ u j. aside (queue.Link j u) (channel_link n m.channel j u)) kept)
 
     -- a ping that its quota admits
@@ -275,7 +275,7 @@ module _ (configs : List Config) (log : List Entry) (at seed conn n : ℕ) (half
         let h : Takes log (made due) (limit_at configs n) p f fs pings = record { first = first; takes = refl; ends = refl; counts = read } in
         let beside : StillBeside due = beside_now due refl refl (λ q away. refl) in
         built due x.channels (ping_metered conn at x.connections) refl is told parts beside (beside_ping due (no_messages due refl p f fs false h refl) (channel_now due refl refl (λ c. refl)))
-        (pinged_connections due refl x.connections.held (pings_admitted due refl p f fs true h refl says) (λ c. beside (queue.Ready n c) refl) (held_now due refl refl (λ c. refl))) (links_now due refl refl refl (λ u j. refl) kept)
+        (pinged_connections due refl x.connections.held (pings_admitted due refl p f fs true h refl says) (λ c. beside (queue.RouterAnswer n c) refl) (held_now due refl refl (λ c. refl))) (links_now due refl refl refl (λ u j. refl) kept)
 
     -- what is held then, with one more
     abbrev held_more : Item → List (ℕ × List Envelope)
@@ -298,7 +298,7 @@ module _ (configs : List Config) (log : List Entry) (at seed conn n : ℕ) (half
         let beside : StillBeside due = beside_now due refl refl (λ q away. aside q (beside_held n conn q away)) in
         built due (metered m.channel conn at x.channels) (record x.connections { held = held_more i }) refl is told parts beside
         (asked_channels due m.channel (messages_admitted due refl p f fs m false h refl says) (channel_now due refl refl (λ c. aside (queue.Channel n c) refl)))
-        (beside_message due refl (held_more i) (no_pings due refl p f fs m.channel true h refl) (λ c. beside (queue.Ready n c) refl) (held_put i))
+        (beside_message due refl (held_more i) (no_pings due refl p f fs m.channel true h refl) (λ c. beside (queue.RouterAnswer n c) refl) (held_put i))
         (links_now due refl refl refl (λ u j. aside (queue.Link j u) (held_link n conn j u)) kept)
 
     -- a ping that its quota does not admit yet
@@ -312,7 +312,7 @@ module _ (configs : List Config) (log : List Entry) (at seed conn n : ℕ) (half
         let beside : StillBeside due = beside_now due refl refl (λ q away. aside q (beside_held n conn q away)) in
         built due x.channels (record (ping_metered conn at x.connections) { held = held_more i }) refl is told parts beside
         (beside_ping due (no_messages due refl p f fs true h refl) (channel_now due refl refl (λ c. aside (queue.Channel n c) refl)))
-        (pinged_connections due refl (held_more i) (pings_admitted due refl p f fs false h refl says) (λ c. beside (queue.Ready n c) refl) (held_put i))
+        (pinged_connections due refl (held_more i) (pings_admitted due refl p f fs false h refl says) (λ c. beside (queue.RouterAnswer n c) refl) (held_put i))
         (links_now due refl refl refl (λ u j. aside (queue.Link j u) (held_link n conn j u)) kept)
 
     -- the row of a step that takes it, which is a frame
@@ -398,7 +398,7 @@ module _ (configs : List Config) (log : List Entry) (at seed conn n : ℕ) (half
         let beside : StillBeside due = beside_still due takes ends (λ q away. aside q (beside_channel n m.channel q away)) in
         built due (with_passed half.peer m) (record x.connections { held = held_less }) lives is told parts beside
         (passed_channels h f fs half.peer m took (λ q. refl) says)
-        (beside_message due lives held_less (no_pings due lives h f fs m.channel false took (passed_holds why n half.peer m (name_of f))) (λ c. beside (queue.Ready n c) refl)
+        (beside_message due lives held_less (no_pings due lives h f fs m.channel false took (passed_holds why n half.peer m (name_of f))) (λ c. beside (queue.RouterAnswer n c) refl)
         (unheld_holds configs log n conn at (made due) late x.connections connects f fs due.puts (taken_off due takes ends) refl (λ c. aside (queue.Held n c) refl)))
         (links_stay due lives takes ends (λ u j. aside (queue.Link j u) (channel_link n m.channel j u)))
 
@@ -411,7 +411,7 @@ module _ (configs : List Config) (log : List Entry) (at seed conn n : ℕ) (half
         let beside : StillBeside due = beside_still due refl refl (λ q away. refl) in
         built due x.channels (record (ping_metered conn at x.connections) { held = held_less }) refl is told parts beside
         (beside_ping due (no_messages due refl h f fs false took refl) (λ c. line_still due (queue.Channel n c) refl refl refl refl))
-        (pinged_connections due refl held_less (pings_admitted due refl h f fs true took refl says) (λ c. beside (queue.Ready n c) refl)
+        (pinged_connections due refl held_less (pings_admitted due refl h f fs true took refl says) (λ c. beside (queue.RouterAnswer n c) refl)
         (unheld_holds configs log n conn at (made due) late x.connections connects f fs [] (taken_off due refl refl) refl (λ c. refl)))
         (links_stay due refl refl refl (λ u j. refl))
 
@@ -421,7 +421,7 @@ module _ (configs : List Config) (log : List Entry) (at seed conn n : ℕ) (half
         let due = only reply.Idle in
         built due (metered m.channel conn at x.channels) x.connections refl is told parts (λ q away. line-still log (made due) reply.Idle q still)
         (asked_channels due m.channel (λ d q. admits_idle configs log n conn at (made due) late refl d (messages q) ∙ sym (refused (d == conn) (q == m.channel) says)) (λ q. line-still log (made due) reply.Idle (queue.Channel n q) still))
-        (beside_message due refl x.connections.held (λ d. admits_idle configs log n conn at (made due) late refl d pings) (λ c. line-still log (made due) reply.Idle (queue.Ready n c) still)
+        (beside_message due refl x.connections.held (λ d. admits_idle configs log n conn at (made due) late refl d pings) (λ c. line-still log (made due) reply.Idle (queue.RouterAnswer n c) still)
         (holds_frame (queue.Held n) log (made due) x.connections.held connects.holds (λ c. line-still log (made due) reply.Idle (queue.Held n c) still)))
         (subst (LinksStand configs (log ++ made due ∷ [])) (sym kept) (links_still configs log (made due) (act.RecvStep conn n) reply.Idle l t refl refl still))
       where
@@ -438,7 +438,7 @@ module _ (configs : List Config) (log : List Entry) (at seed conn n : ℕ) (half
         let due = only reply.Idle in
         built due x.channels (ping_metered conn at x.connections) refl is told parts (λ q away. line-still log (made due) reply.Idle q still)
         (beside_ping due (λ d q. admits_idle configs log n conn at (made due) late refl d (messages q)) (λ q. line-still log (made due) reply.Idle (queue.Channel n q) still))
-        (pinged_connections due refl x.connections.held (λ d. admits_idle configs log n conn at (made due) late refl d pings ∙ sym (refused (d == conn) says)) (λ c. line-still log (made due) reply.Idle (queue.Ready n c) still)
+        (pinged_connections due refl x.connections.held (λ d. admits_idle configs log n conn at (made due) late refl d pings ∙ sym (refused (d == conn) says)) (λ c. line-still log (made due) reply.Idle (queue.RouterAnswer n c) still)
         (holds_frame (queue.Held n) log (made due) x.connections.held connects.holds (λ c. line-still log (made due) reply.Idle (queue.Held n c) still)))
         (subst (LinksStand configs (log ++ made due ∷ [])) (sym kept) (links_still configs log (made due) (act.RecvStep conn n) reply.Idle l t refl refl still))
       where

@@ -37,6 +37,6 @@ pub record HaveLeft (configs : List Config) (log : List Entry) (n conn : ℕ) (h
   pub connections : w.connections ≡ x.connections
   pub rest : w ≡ record x { router = w.router; tracker = w.tracker }
   pub holds : filter (stands_in (queue.Held n conn)) (left_by log taken) ≡ line log (queue.Held n conn)
-  pub answers : filter (stands_in (queue.Ready n conn)) (left_by log taken) ≡ line log (queue.Ready n conn)
+  pub answers : filter (stands_in (queue.RouterAnswer n conn)) (left_by log taken) ≡ line log (queue.RouterAnswer n conn)
   pub flight : waiting (way_of m (other_side half.writes)) half.link ≡ filter (stands_in (queue.Link half.link (other_side half.writes))) (left_by log taken)
   pub linked : (e : Entry) → DropsEnd log e half.link half.writes → LinksStand configs (log ++ e ∷ []) (end_dropped half.link half.writes m)

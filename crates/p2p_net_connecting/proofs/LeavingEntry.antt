@@ -10,7 +10,7 @@ use Rattle.p2p_log.specs.declared.entry.Entry.{Entry}
 use Rattle.p2p_log.specs.declared.entry.Reply.TheVariants as reply
 use Rattle.p2p_log_rules.specs.declared.row.Half.{Half}
 use Rattle.p2p_log_rules.specs.declared.row.Row.{Row}
-use Rattle.p2p_log_rules.specs.Connections.{begins, ends_connection}
+use Rattle.p2p_log_rules.specs.Connections.{begins_connection, ends_connection}
 use Rattle.p2p_log_rules.specs.Effect.{entry_of}
 use Rattle.p2p_log_rules.specs.Ending.{end_row}
 use Rattle.p2p_log_rules.specs.Facts.{registers_at, stops, turns}
@@ -100,7 +100,7 @@ module _ {configs : List Config} {log : List Entry} {n conn : ℕ} {half : Half}
   frees_side true = sender_gives log (entry true) n conn why half refl (half_is t) refl
   frees_side false = receiver_gives log (entry false) n conn why half refl (half_is t) refl
 
-  pub begins_none : (sends : Bool) (k : ℕ) → begins n k log (entry sends) ≡ false
+  pub begins_none : (sends : Bool) (k : ℕ) → begins_connection n k log (entry sends) ≡ false
   begins_none sends k = begins_is log (entry sends) n k ∙ and_false (steps_sender n k (half_act sends conn n))
 
   pub makes_none : (sends : Bool) (k : ℕ) → connections_of (log ++ entry sends ∷ []) n k ≡ connections_of log n k

@@ -42,7 +42,7 @@ module _ {configs : List Config} {log : List Entry} {n conn : ℕ} {half : Half}
     (t : Leaving configs log n conn half why c taken x w y l m links r) where
   -- a queue that is none of those that end with the connection
   pub none_of : (p : Queue) → same_queue p (queue.High n conn) ≡ false → same_queue p (queue.Low n conn) ≡ false → same_queue p (queue.Held n conn) ≡ false
-      → same_queue p (queue.Control n conn) ≡ false → same_queue p (queue.Ready n conn) ≡ false → same_queue p (flight t) ≡ false → Each (λ q. same_queue p q ≡ false) (qs t)
+      → same_queue p (queue.Control n conn) ≡ false → same_queue p (queue.RouterAnswer n conn) ≡ false → same_queue p (flight t) ≡ false → Each (λ q. same_queue p q ≡ false) (qs t)
   none_of p high low holds control ready frames = (high, (low, (holds, (control, (ready, (frames, tt))))))
 
   pub off_flight : (p : Queue) → same_queue p (queue.Link half.link side.Out) ≡ false → same_queue p (queue.Link half.link side.In) ≡ false → same_queue p (flight t) ≡ false
@@ -91,8 +91,8 @@ module _ {configs : List Config} {log : List Entry} {n conn : ℕ} {half : Half}
     pub control_gone : line (log ++ e ∷ []) (queue.Control n conn) ≡ []
     control_gone = emptied (queue.Control n conn) left_none.1.1.1.0 (put_none (queue.Control n conn) refl refl)
 
-    pub ready_gone : line (log ++ e ∷ []) (queue.Ready n conn) ≡ []
-    ready_gone = emptied (queue.Ready n conn) left_none.1.1.1.1.0 (put_none (queue.Ready n conn) refl refl)
+    pub ready_gone : line (log ++ e ∷ []) (queue.RouterAnswer n conn) ≡ []
+    ready_gone = emptied (queue.RouterAnswer n conn) left_none.1.1.1.1.0 (put_none (queue.RouterAnswer n conn) refl refl)
 
     pub flight_gone : line (log ++ e ∷ []) (flight t) ≡ []
     flight_gone = emptied (flight t) left_none.1.1.1.1.1.0 (put_none (flight t) (off (queue.Router n) refl refl) (off (queue.Tracker n) refl refl))

@@ -96,7 +96,7 @@ module _ {configs : List Config} {log : List Entry} {n conn : ℕ} {half : Half}
       (same_queue-sym p (queue.Low n conn) ∙ away (is_told n) (queue.Low n conn) p refl own)
       (same_queue-sym p (queue.Held n conn) ∙ away (is_told n) (queue.Held n conn) p refl own)
       (same_queue-sym p (queue.Control n conn) ∙ other)
-      (same_queue-sym p (queue.Ready n conn) ∙ away (is_told n) (queue.Ready n conn) p refl own)
+      (same_queue-sym p (queue.RouterAnswer n conn) ∙ away (is_told n) (queue.RouterAnswer n conn) p refl own)
       (same_queue-sym p (flight t) ∙ away (is_told n) (flight t) p refl own)
 
   -- ---- with the entry
@@ -117,10 +117,10 @@ module _ {configs : List Config} {log : List Entry} {n conn : ℕ} {half : Half}
     connections_now =
         connections_ended configs log e n conn x.connections y.connections (connects t) (ends_one t at seed sends) one_less
         (ap (λ (cs : Connections). cs.stages) conns_are) (ap (λ (cs : Connections). cs.pings) conns_are)
-        (subst (HoldsLines (queue.Ready n) (log ++ e ∷ [])) (sym (ap (λ (cs : Connections). cs.answers) conns_are))
-        (cleared_line (queue.Ready n) x.connections.answers (connects t).waits (ready_gone t at seed sends)
-        (λ k other. unmoved t at seed sends (queue.Ready n k)
-        (none_of t (queue.Ready n k) refl refl refl refl (other_conn k other) (off_flight t (queue.Ready n k) refl refl)) (put_none t at seed sends (queue.Ready n k) refl refl))))
+        (subst (HoldsLines (queue.RouterAnswer n) (log ++ e ∷ [])) (sym (ap (λ (cs : Connections). cs.answers) conns_are))
+        (cleared_line (queue.RouterAnswer n) x.connections.answers (connects t).waits (ready_gone t at seed sends)
+        (λ k other. unmoved t at seed sends (queue.RouterAnswer n k)
+        (none_of t (queue.RouterAnswer n k) refl refl refl refl (other_conn k other) (off_flight t (queue.RouterAnswer n k) refl refl)) (put_none t at seed sends (queue.RouterAnswer n k) refl refl))))
         (subst (HoldsLines (queue.Held n) (log ++ e ∷ [])) (sym (ap (λ (cs : Connections). cs.held) conns_are))
         (cleared_line (queue.Held n) x.connections.held (connects t).holds (held_gone t at seed sends)
         (λ k other. unmoved t at seed sends (queue.Held n k)
@@ -169,7 +169,7 @@ module _ {configs : List Config} {log : List Entry} {n conn : ℕ} {half : Half}
           unmoved t at seed sends (queue.Link j u)
           (none_of t (queue.Link j u)
           (link_off (queue.High n conn) j u refl refl) (link_off (queue.Low n conn) j u refl refl) (link_off (queue.Held n conn) j u refl refl)
-          (link_off (queue.Control n conn) j u refl refl) (link_off (queue.Ready n conn) j u refl refl) (same_queue-sym (queue.Link j u) (flight t) ∙ other))
+          (link_off (queue.Control n conn) j u refl refl) (link_off (queue.RouterAnswer n conn) j u refl refl) (same_queue-sym (queue.Link j u) (flight t) ∙ other))
           (put_none t at seed sends (queue.Link j u) (link_off (queue.Router n) j u refl refl) (link_off (queue.Tracker n) j u refl refl));
     }
 

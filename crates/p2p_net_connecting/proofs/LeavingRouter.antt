@@ -150,7 +150,7 @@ module _ {configs : List Config} {log : List Entry} {n conn : ℕ} {half : Half}
           (same_queue-sym q (queue.High n conn) ∙ high) (same_queue-sym q (queue.Low n conn) ∙ low)
           (same_queue-sym q (queue.Held n conn) ∙ same_queue-other n (queue.Held n conn) q refl own)
           (same_queue-sym q (queue.Control n conn) ∙ same_queue-other n (queue.Control n conn) q refl own)
-          (same_queue-sym q (queue.Ready n conn) ∙ same_queue-other n (queue.Ready n conn) q refl own)
+          (same_queue-sym q (queue.RouterAnswer n conn) ∙ same_queue-other n (queue.RouterAnswer n conn) q refl own)
           (same_queue-sym q (flight t) ∙ same_queue-other n (flight t) q refl own)
           in
           filter_others (left t) (drained (left t) (qs t)) q (apart t) (drained_taken (left t) (qs t) (apart t))

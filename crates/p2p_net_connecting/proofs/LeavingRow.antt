@@ -63,7 +63,7 @@ module _ {configs : List Config} {log : List Entry} {n conn : ℕ} {half : Half}
   told_are : held t.kept.without.tracker.told (queue.Control n conn) ≡ left_in (queue.Control n conn)
   told_are = ap (λ (z : Tracker). held z.told (queue.Control n conn)) (without_tracker t) ∙ t.gone.control
 
-  answers_are : waiting t.kept.without.connections.answers conn ≡ left_in (queue.Ready n conn)
+  answers_are : waiting t.kept.without.connections.answers conn ≡ left_in (queue.RouterAnswer n conn)
   answers_are =
       ap (λ (z : Node). waiting z.connections.answers conn) t.kept.kept
       ∙ (ap (λ (cs : Connections). waiting cs.answers conn) t.gone.connections ∙ ((connects t).waits conn ∙ sym t.gone.answers))
@@ -75,21 +75,21 @@ module _ {configs : List Config} {log : List Entry} {n conn : ℕ} {half : Half}
     (refl, (refl, (refl, (refl, (off_flight t (queue.High n conn) refl refl, tt))))),
     (
       (refl, (refl, (refl, (off_flight t (queue.Low n conn) refl refl, tt)))),
-      ((refl, (refl, (off_flight t (queue.Held n conn) refl refl, tt))), ((refl, (off_flight t (queue.Control n conn) refl refl, tt)), ((off_flight t (queue.Ready n conn) refl refl, tt), (tt, tt)))),
+      ((refl, (refl, (off_flight t (queue.Held n conn) refl refl, tt))), ((refl, (off_flight t (queue.Control n conn) refl refl, tt)), ((off_flight t (queue.RouterAnswer n conn) refl refl, tt), (tt, tt)))),
     ),
   )
 
   ends_are : (f : List End) (hs ts ans fl : List Envelope) → f ≡ E (all_of n conn (left t)) → hs ≡ left_in (queue.Held n conn) → ts ≡ left_in (queue.Control n conn)
-      → ans ≡ left_in (queue.Ready n conn) → fl ≡ left_in (flight t)
+      → ans ≡ left_in (queue.RouterAnswer n conn) → fl ≡ left_in (flight t)
       → ((((before ++ f) ++ E hs) ++ E ts) ++ E ans) ++ E fl ≡ before ++ E (drained (left t) (qs t))
   ends_are f hs ts ans fl f_is hs_is ts_is ans_is fl_is =
       ap (λ v. ((((before ++ v) ++ E hs) ++ E ts) ++ E ans) ++ E fl) f_is
       ∙ (ap (λ v. ((((before ++ E (all_of n conn (left t))) ++ E v) ++ E ts) ++ E ans) ++ E fl) hs_is
       ∙ (ap (λ v. ((((before ++ E (all_of n conn (left t))) ++ E (left_in (queue.Held n conn))) ++ E v) ++ E ans) ++ E fl) ts_is
       ∙ (ap (λ v. ((((before ++ E (all_of n conn (left t))) ++ E (left_in (queue.Held n conn))) ++ E (left_in (queue.Control n conn))) ++ E v) ++ E fl) ans_is
-      ∙ (ap (λ v. ((((before ++ E (all_of n conn (left t))) ++ E (left_in (queue.Held n conn))) ++ E (left_in (queue.Control n conn))) ++ E (left_in (queue.Ready n conn))) ++ E v) fl_is
+      ∙ (ap (λ v. ((((before ++ E (all_of n conn (left t))) ++ E (left_in (queue.Held n conn))) ++ E (left_in (queue.Control n conn))) ++ E (left_in (queue.RouterAnswer n conn))) ++ E v) fl_is
       ∙ (ends_of_all cause.ConnectionEnded before (left_in (queue.High n conn)) (left_in (queue.Low n conn)) (left_in (queue.Held n conn))
-      (left_in (queue.Control n conn)) (left_in (queue.Ready n conn)) (left_in (flight t))
+      (left_in (queue.Control n conn)) (left_in (queue.RouterAnswer n conn)) (left_in (flight t))
       ∙ ap (λ v. before ++ E v) (sym (drained_lines (left t) (qs t) (apart t) differ)))))))
 
   emptied_is : t.kept.emptied ≡ with_ends (before ++ E (drained (left t) (qs t)))

@@ -36,7 +36,7 @@ use Rattle.p2p_net_links.specs.Stands.{LinksStand}
 use Rattle.p2p_net_links.specs.declared.links.Links.{Links}
 use Rattle.p2p_net_connecting.specs.Connecting.{half_by}
 use Rattle.p2p_net_node.specs.Places as place
-use Rattle.p2p_net_node.specs.Ready.{is_started}
+use Rattle.p2p_net_node.specs.Ready.{is_node_up}
 use Rattle.p2p_net_connecting.specs.Receiving.{frame_in, first_in, kept_in, held_first, ReadsFrame, ReadsNone, ReceivesBy, RetriesBy, StepsBy, StepsAt, StepsOn, RecvStepsBy, RecvSteps}
 use Rattle.p2p_net_node.specs.Stands.{OwnStands, NodeStands}
 use Rattle.p2p_net_node.specs.declared.node.Node.{Node}
@@ -149,4 +149,4 @@ module _ (configs : List Config) (log : List Entry) (at seed conn n : ℕ) (x y 
   by_start true up d = by_half (half_by n x.connections l conn) up (sym (half_is configs log n conn x.connections l (s.each place.connections) t)) d
 
   pub recv_step_performs : RecvSteps (length log) n conn at x y l links r → Steps
-  recv_step_performs d = by_start (is_started x) (sym (started_is configs log n x s)) d
+  recv_step_performs d = by_start (is_node_up x) (sym (started_is configs log n x s)) d

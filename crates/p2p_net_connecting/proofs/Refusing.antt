@@ -59,7 +59,7 @@ link_control : (link n conn : ℕ) (u : Side) → same_queue (queue.Link link u)
 link_control link n conn side.Out = refl
 link_control link n conn side.In = refl
 
-link_ready : (link n conn : ℕ) (u : Side) → same_queue (queue.Link link u) (queue.Ready n conn) ≡ false
+link_ready : (link n conn : ℕ) (u : Side) → same_queue (queue.Link link u) (queue.RouterAnswer n conn) ≡ false
 link_ready link n conn side.Out = refl
 link_ready link n conn side.In = refl
 
@@ -105,7 +105,7 @@ module _ (configs : List Config) (log : List Entry) (n conn : ℕ) (half : Half)
     connections = refl;
     rest = refl;
     holds = left_all (queue.Held n conn);
-    answers = left_all (queue.Ready n conn);
+    answers = left_all (queue.RouterAnswer n conn);
     flight = t.waits u half.link ∙ sym (left_all p);
     linked = λ e drops. links_dropped configs log e l half.link half.writes t drops;
   }
@@ -138,7 +138,7 @@ module _ (configs : List Config) (log : List Entry) (n conn : ℕ) (half : Half)
       connections = refl;
       rest = refl;
       holds = left_apart (queue.Held n conn) (link_held half.link n conn u);
-      answers = left_apart (queue.Ready n conn) (link_ready half.link n conn u);
+      answers = left_apart (queue.RouterAnswer n conn) (link_ready half.link n conn u);
       flight = without_it ∙ sym left_here;
       linked = λ e drops. links_refused configs log e l half.link half.writes t drops;
     }

@@ -20,7 +20,7 @@ use Rattle.p2p_log.specs.Lines.{line, name_of, placed, stands_in, ended_item}
 use Rattle.p2p_log_rules.specs.declared.row.Half.{Half}
 use Rattle.p2p_log_rules.specs.declared.row.Row.{Row}
 use Rattle.p2p_log_rules.specs.Dropping.{half_end}
-use Rattle.p2p_log_rules.specs.Connections.{half_at, live_half, is_done, begins, runs, is_begun, is_answer, has_run, is_running, is_end}
+use Rattle.p2p_log_rules.specs.Connections.{half_at, live_half, is_done, begins_connection, runs, is_begun, is_answer, has_run, is_running, is_end}
 use Rattle.p2p_log_rules.specs.Effect.{only, row, effect, takes_oldest, half_row, sender_row, send_step_row}
 use Rattle.p2p_log_rules.specs.Pings.{ping_frequency_at, is_past, ping_is_due}
 use Rattle.p2p_log_rules.specs.Facts.{is_up, stops, turns, registers_at, taken, item_named, is_stopped}
@@ -84,21 +84,21 @@ pub taken-first : (log : List Entry) (e : Entry) (q : Queue) (x : Envelope) (res
 unfolding taken
 taken-first log e q x rest h t = ap (flat_map (item_named log)) t ∙ (append-nil (item_named log (name_of x)) ∙ item_named-first log q x rest h)
 
-link_other : (n conn link : ℕ) (t : Side) → same_queue (queue.Ready n conn) (queue.Link link t) ≡ false
+link_other : (n conn link : ℕ) (t : Side) → same_queue (queue.RouterAnswer n conn) (queue.Link link t) ≡ false
 link_other n conn link side.Out = refl
 link_other n conn link side.In = refl
 
 -- an entry that takes the first answer of a connection, and does no more
 record Takes (log : List Entry) (e : Entry) (n conn : ℕ) (x : Envelope) (rest : List Envelope) : Type 0 where
-  first : line log (queue.Ready n conn) ≡ x ∷ rest
+  first : line log (queue.RouterAnswer n conn) ≡ x ∷ rest
   takes : e.takes ≡ name_of x ∷ []
   puts : e.puts ≡ []
   ends : e.ends ≡ []
 
-line_begun : (log : List Entry) (e : Entry) (n conn : ℕ) (x : Envelope) (rest : List Envelope) (q : Queue) → Takes log e n conn x rest → line (log ++ e ∷ []) q ≡ cond (same_queue (queue.Ready n conn) q) rest (line log q)
+line_begun : (log : List Entry) (e : Entry) (n conn : ℕ) (x : Envelope) (rest : List Envelope) (q : Queue) → Takes log e n conn x rest → line (log ++ e ∷ []) q ≡ cond (same_queue (queue.RouterAnswer n conn) q) rest (line log q)
 line_begun log e n conn x rest q h =
-    line-taken log e (queue.Ready n conn) x rest q h.first (ap (λ t. t ++ flat_map ended_item e.ends) h.takes ∙ ap (λ d. name_of x ∷ flat_map ended_item d) h.ends)
-    ∙ (ap (λ p. cond (same_queue (queue.Ready n conn) q) rest (line log q) ++ filter (stands_in q) (placed (length log) 0 p)) h.puts ∙ append-nil (cond (same_queue (queue.Ready n conn) q) rest (line log q)))
+    line-taken log e (queue.RouterAnswer n conn) x rest q h.first (ap (λ t. t ++ flat_map ended_item e.ends) h.takes ∙ ap (λ d. name_of x ∷ flat_map ended_item d) h.ends)
+    ∙ (ap (λ p. cond (same_queue (queue.RouterAnswer n conn) q) rest (line log q) ++ filter (stands_in q) (placed (length log) 0 p)) h.puts ∙ append-nil (cond (same_queue (queue.RouterAnswer n conn) q) rest (line log q)))
 
 -- a step of a sending half is none of a router's
 pub step_beside : (configs : List Config) (log : List Entry) (e : Entry) (m conn n : ℕ) → e.event.act ≡ act.SendStep conn n → is_end e.reply ≡ false → IsBeside configs log e m
@@ -110,12 +110,12 @@ step_beside configs log e m conn n acts lives = record {
 }
 
 -- a step of a connection, of whose connections this is the one that did it
-pub step_begins : (log : List Entry) (n conn c : ℕ) (e : Entry) → e.event.act ≡ act.SendStep conn n → e.reply ≡ reply.Ok → begins n c log e ≡ (c == conn)
+pub step_begins : (log : List Entry) (n conn c : ℕ) (e : Entry) → e.event.act ≡ act.SendStep conn n → e.reply ≡ reply.Ok → begins_connection n c log e ≡ (c == conn)
 step_begins log n conn c e acts ok =
     begins_act log e n c (act.SendStep conn n) acts
     ∙ (ap (λ r. ((n == n) && (conn == c)) && is_done r) ok ∙ (and_true ((n == n) && (conn == c)) ∙ same_conn n conn c))
 
-pub other_begins : (log : List Entry) (n conn c : ℕ) (e : Entry) → e.event.act ≡ act.SendStep conn n → (c == conn) ≡ false → begins n c log e ≡ false
+pub other_begins : (log : List Entry) (n conn c : ℕ) (e : Entry) → e.event.act ≡ act.SendStep conn n → (c == conn) ≡ false → begins_connection n c log e ≡ false
 other_begins log n conn c e acts other =
     begins_act log e n c (act.SendStep conn n) acts ∙ (ap (λ b. b && is_done e.reply) (same_conn n conn c) ∙ ap (λ b. b && is_done e.reply) other)
 
@@ -154,10 +154,10 @@ took_stands configs log e n conn cs x rest s pinging begun idle acts ok h = by (
     told_answer c =
         runs_is log e n c
         ∙ (ap (λ b. b && list_any is_answer (taken log e)) (step_begins log n conn c e acts ok)
-        ∙ (ap (λ items. (c == conn) && list_any is_answer items) (taken-first log e (queue.Ready n conn) x rest h.first h.takes) ∙ ap (λ b. (c == conn) && b) (or_false (is_answer x.item))))
+        ∙ (ap (λ items. (c == conn) && list_any is_answer items) (taken-first log e (queue.RouterAnswer n conn) x rest h.first h.takes) ∙ ap (λ b. (c == conn) && b) (or_false (is_answer x.item))))
 
-    waits : HoldsLines (queue.Ready n) (log ++ e ∷ []) (popped_at cs.answers conn)
-    waits c = waits_taken (queue.Ready n) (same_ready n) log conn x rest cs.answers s.waits h.first c ∙ sym (line_begun log e n conn x rest (queue.Ready n c) h)
+    waits : HoldsLines (queue.RouterAnswer n) (log ++ e ∷ []) (popped_at cs.answers conn)
+    waits c = waits_taken (queue.RouterAnswer n) (same_ready n) log conn x rest cs.answers s.waits h.first c ∙ sym (line_begun log e n conn x rest (queue.RouterAnswer n c) h)
 
     spawns : SpawnsNone log e n
     spawns c = live_connection-kept log e n c (ends_none-reply log e n c (ap (stops n) acts) (ap is_end ok)) (connections_of-unmade log e n (ap (steps_spawner n) acts) c)
@@ -230,7 +230,7 @@ run_performs configs log at seed conn n half [] x y l links r s t up has begun i
                   pinged = old.pinged;
                   holds = old.holds;
                   pings = old.pings;
-                  waits = λ c. waits_none (queue.Ready n) (same_ready n) log conn x.connections.answers cs.waits (sym (cs.waits conn) ∙ is) c ∙ (sym (cs.waits c) ∙ old.waits c);
+                  waits = λ c. waits_none (queue.RouterAnswer n) (same_ready n) log conn x.connections.answers cs.waits (sym (cs.waits conn) ∙ is) c ∙ (sym (cs.waits c) ∙ old.waits c);
                 }),
             (
               subst (RouterLives configs (log ++ e ∷ []) n) (sym (ap (λ (z : Node). z.router) parts)) (part_still place.router configs log e n x (act.SendStep conn n) reply.Idle (s.each place.router) refl refl still),
@@ -248,7 +248,7 @@ run_performs configs log at seed conn n half (w ∷ ws) x y l links r s t up has
     let cs : ConnectionsStand configs log n x.connections = s.each place.connections in
     let lasts : is_stopped log n ≡ false = up_lasts log n up in
     let rout : RouterStands configs log n x.router = (s.each place.router).runs lasts in
-    let first : line log (queue.Ready n conn) ≡ w ∷ ws = sym (cs.waits conn) ∙ is in
+    let first : line log (queue.RouterAnswer n conn) ≡ w ∷ ws = sym (cs.waits conn) ∙ is in
     let row_is : send_step_row configs log conn n at ≡ takes_oldest (w ∷ ws) = half_steps configs log conn n at half true false up has begun idle ∙ ap takes_oldest first in
     let lives : is_end e.reply ≡ false = ap (λ (z : Row). is_end z.reply) row_is in
     let takes : Takes log e n conn w ws = record { first = first; takes = ap (λ (z : Row). z.takes) row_is; puts = ap (λ (z : Row). z.puts) row_is; ends = ap (λ (z : Row). z.ends) row_is } in
@@ -270,7 +270,7 @@ run_performs configs log at seed conn n half (w ∷ ws) x y l links r s t up has
                 subst (TrackerStands configs (log ++ e ∷ []) n) (sym (ap (λ (z : Node). z.tracker) parts))
                     (tracker_frame configs log e n x.tracker (s.each place.tracker)
                     (step_untold log e n conn refl lives (line_begun log e n conn w ws (queue.Tracker n) takes)
-                    (λ q own. line_begun log e n conn w ws q takes ∙ ap (λ b. cond b ws (line log q)) (away (is_told n) (queue.Ready n conn) q refl own)))),
+                    (λ q own. line_begun log e n conn w ws q takes ∙ ap (λ b. cond b ws (line log q)) (away (is_told n) (queue.RouterAnswer n conn) q refl own)))),
                 tt,
               ),
             ),

@@ -26,7 +26,7 @@ use Rattle.p2p_net_links.specs.Stands.{LinksStand}
 use Rattle.p2p_net_links.specs.declared.links.Links.{Links}
 use Rattle.p2p_net_connecting.specs.Connecting.{half_by, StepsAt, StepsHalf, SendStepsBy, SendSteps}
 use Rattle.p2p_net_node.specs.Places as place
-use Rattle.p2p_net_node.specs.Ready.{is_started}
+use Rattle.p2p_net_node.specs.Ready.{is_node_up}
 use Rattle.p2p_net_node.specs.Stands.{NodeStands}
 use Rattle.p2p_net_node.specs.declared.node.Node.{Node}
 use Rattle.p2p_net_connecting.proofs.Beginning.{begin_performs}
@@ -75,4 +75,4 @@ module _ (configs : List Config) (log : List Entry) (at seed conn n : ℕ) (x y 
   by_start true up d = by_half (half_by n x.connections l conn) up (sym (half_is configs log n conn x.connections l connects t)) d
 
   pub send_step_performs : SendSteps (length log) n conn at x y l links r → Done
-  send_step_performs d = by_start (is_started x) (sym (started_is configs log n x s)) d
+  send_step_performs d = by_start (is_node_up x) (sym (started_is configs log n x s)) d

@@ -18,11 +18,10 @@ use Rattle.p2p_log.proofs.Queues.{same_queue-refl}
 use Rattle.p2p_log_rules.specs.declared.row.Row.{Row}
 use Rattle.p2p_log_rules.specs.Effect.{entry_of, effect, row}
 use Rattle.p2p_log_rules.specs.Facts.{is_up, taken, with_named, with_begun}
-use Rattle.p2p_log_rules.specs.Rows.{only, takes_oldest}
+use Rattle.p2p_log_rules.specs.Rows.{only, takes_oldest, taken_row}
 use Rattle.p2p_log_rules.specs.Spawning.{Spawned, spawned_of, connections_of}
 use Rattle.p2p_log_rules.proofs.Spawning.{connections_of-acted}
 use Rattle.p2p_net_queues.proofs.Going.{line-taken}
-use Rattle.p2p_net_queues.specs.Rows.{taken_row}
 use Rattle.p2p_net_connections.specs.Stands.{ConnectionsStand}
 use Rattle.p2p_net_connections.proofs.Spawned.{connections_spawned}
 use Rattle.p2p_net_links.specs.Stands.{LinksStand}
@@ -32,7 +31,7 @@ use Rattle.p2p_net_connections.specs.declared.spawner.Taken.{Taken}
 use Rattle.p2p_net_connections.proofs.SpawnerChanges.{TakesFirst, spawner_less, spawner_takes, spawner_empty}
 use Rattle.p2p_net_connecting.specs.Steps.{SpawnsBy, SpawnerStepsBy}
 use Rattle.p2p_net_node.specs.Places as place
-use Rattle.p2p_net_node.specs.Ready.{is_started}
+use Rattle.p2p_net_node.specs.Ready.{is_node_up}
 use Rattle.p2p_net_node.specs.Stands.{NodeStands}
 use Rattle.p2p_net_node.specs.declared.node.Node.{Node}
 use Rattle.p2p_net_node.proofs.EachPart.{with_parts, each_part-made, not_among}
@@ -146,7 +145,7 @@ module _ (configs : List Config) (log : List Entry) (moment seed n : ℕ) (x y :
       (subst (ConnectionsStand configs (log ++ e due ∷ []) n) (sym (ap (λ (z : Node). z.connections) d.1))
       (connections_spawned configs log (e due) n w.link w.reservation x.connections connects made takes.side (begins_unsent log (e due) n a refl (λ conn. refl))
       (receives_apart configs log (e due) n a refl (λ conn. refl) (λ conn. line-taken log (e due) q z zs (queue.Held n conn) first refl ∙ append-nil (line log (queue.Held n conn))))
-      (λ conn. line-taken log (e due) q z zs (queue.Ready n conn) first refl ∙ append-nil (line log (queue.Ready n conn)))))
+      (λ conn. line-taken log (e due) q z zs (queue.RouterAnswer n conn) first refl ∙ append-nil (line log (queue.RouterAnswer n conn)))))
 
   by_line : is_up log n ≡ true → (xs : List Envelope) → waits ≡ xs → SpawnerStepsBy true (length log) x y r → Done
   by_line up [] none d = idle up none (subst (λ o. SpawnsBy o (length log) x y r) (spawner_empty configs log n x.spawning spawns none) d)
@@ -155,8 +154,8 @@ module _ (configs : List Config) (log : List Entry) (moment seed n : ℕ) (x y :
       spawn up z zs first took.0 took.1.1 (subst (λ o. SpawnsBy o (length log) x y r) took.1.0 d)
 
 pub spawner_performs : (configs : List Config) (log : List Entry) (moment seed n : ℕ) (x y : Node) (l ls : Links) (r : Row) → NodeStands configs log n x → LinksStand configs log l → is_ended log n (length log) ≡ false
-    → is_begun log n (length log) ≡ false → SpawnerStepsBy (is_started x) (length log) x y r → ls ≡ l → Performs configs log (asked moment seed (act.Spawner n)) n y ls r
-spawner_performs configs log moment seed n x y l ls r s t fresh unbegun d kept = by (is_started x) (sym (started_is configs log n x s)) d
+    → is_begun log n (length log) ≡ false → SpawnerStepsBy (is_node_up x) (length log) x y r → ls ≡ l → Performs configs log (asked moment seed (act.Spawner n)) n y ls r
+spawner_performs configs log moment seed n x y l ls r s t fresh unbegun d kept = by (is_node_up x) (sym (started_is configs log n x s)) d
   where
     by : (b : Bool) → is_up log n ≡ b → SpawnerStepsBy b (length log) x y r → Performs configs log (asked moment seed (act.Spawner n)) n y ls r
     by true up d = by_line configs log moment seed n x y l ls r s t kept fresh unbegun up (line log (queue.Spawner n)) refl d

@@ -22,7 +22,7 @@ use Rattle.p2p_net_connections.proofs.Changes.{connections_answered, waiting-ans
 use Rattle.p2p_net_links.specs.Stands.{LinksStand}
 use Rattle.p2p_net_links.specs.declared.links.Links.{Links}
 use Rattle.p2p_net_node.specs.Places as place
-use Rattle.p2p_net_node.specs.Ready.{is_started}
+use Rattle.p2p_net_node.specs.Ready.{is_node_up}
 use Rattle.p2p_net_connecting.specs.Steps.{RoutesBy, Routes}
 use Rattle.p2p_net_node.specs.Stands.{RouterStands, NodeStands}
 use Rattle.p2p_net_node.specs.declared.node.Node.{Node}
@@ -36,17 +36,17 @@ use Rattle.p2p_log_rules.proofs.Connections.{live_connection-kept, ends_untold}
 use Rattle.p2p_net_node.proofs.Readying.{lasts_started, started_is}
 
 -- the line of a queue to which the row adds
-line-adds : (log : List Entry) (ev : Event) (r : Row) (n c : ℕ) → Adds (length log) r (live log) (queue.Ready n c)
-    → line (log ++ entry_of ev r ∷ []) (queue.Ready n c) ≡ line log (queue.Ready n c) ++ filter (stands_in (queue.Ready n c)) (placed (length log) 0 r.puts)
+line-adds : (log : List Entry) (ev : Event) (r : Row) (n c : ℕ) → Adds (length log) r (live log) (queue.RouterAnswer n c)
+    → line (log ++ entry_of ev r ∷ []) (queue.RouterAnswer n c) ≡ line log (queue.RouterAnswer n c) ++ filter (stands_in (queue.RouterAnswer n c)) (placed (length log) 0 r.puts)
 unfolding line
-line-adds log ev r n c adds = ap (filter (stands_in (queue.Ready n c))) (live-append log (entry_of ev r)) ∙ adds
+line-adds log ev r n c adds = ap (filter (stands_in (queue.RouterAnswer n c))) (live-append log (entry_of ev r)) ∙ adds
 
 -- the row of a node, by whether it has started
 routed_by : (configs : List Config) (log : List Entry) (n : ℕ) (b : Bool) → is_up log n ≡ b → router_row configs log n ≡ cond b (route_oldest configs log n (line log (queue.Router n))) (only reply.Gone)
 routed_by configs log n b up = ap (λ t. cond t (route_oldest configs log n (line log (queue.Router n))) (only reply.Gone)) up
 
 route_on : (configs : List Config) (log : List Entry) (at seed n : ℕ) (b : Bool) (x y : Node) (l links : Links) (r : Row) → NodeStands configs log n x → LinksStand configs log l
-    → is_started x ≡ b → RoutesBy b (length log) n x y r → links ≡ l → Performs configs log (asked at seed (act.Router n)) n y links r
+    → is_node_up x ≡ b → RoutesBy b (length log) n x y r → links ≡ l → Performs configs log (asked at seed (act.Router n)) n y links r
 unfolding effect row
 route_on configs log at seed n false x y l links r s t started d kept =
     let up : is_up log n ≡ false = sym (started_is configs log n x s) ∙ started in
@@ -65,10 +65,10 @@ route_on configs log at seed n true x y l links r s t started d kept =
     ∙ (ap (λ k. route_oldest configs log k (line log (queue.Router k))) rout.number ∙ sym (routed_by configs log n true up))
     in
     let made : e ≡ entry_of ev r = ap (entry_of ev) (sym row_is) in
-    let adds : (c : ℕ) → line (log ++ e ∷ []) (queue.Ready n c) ≡ line log (queue.Ready n c) ++ filter (stands_in (queue.Ready n c)) (placed (length log) 0 r.puts) =
+    let adds : (c : ℕ) → line (log ++ e ∷ []) (queue.RouterAnswer n c) ≡ line log (queue.RouterAnswer n c) ++ filter (stands_in (queue.RouterAnswer n c)) (placed (length log) 0 r.puts) =
     λ c.
-    ap (λ (z : Entry). line (log ++ z ∷ []) (queue.Ready n c)) made
-    ∙ line-adds log ev r n c (calls.others configs log (queue.Ready n c) rout.stands refl)
+    ap (λ (z : Entry). line (log ++ z ∷ []) (queue.RouterAnswer n c)) made
+    ∙ line-adds log ev r n c (calls.others configs log (queue.RouterAnswer n c) rout.stands refl)
     in
     record {
       row_is = row_is;
@@ -83,7 +83,7 @@ route_on configs log at seed n true x y l links r s t started d kept =
               subst (ConnectionsStand configs (log ++ e ∷ []) n) (sym (ap (λ (z : Node). z.connections) parts))
                   (connections_answered configs log e n x.connections (answered (length log) n 0 r.puts x.connections.answers) conn (λ c. live_connection-kept log e n c (ends_untold log e n c (act.Router n) refl refl) (connections_of-unmade log e n refl c)) (begins_unsent log e n (act.Router n) refl (λ c. refl))
                   (receives_apart configs log e n (act.Router n) refl (λ c. refl) (λ c. line-untouched configs log ev (queue.Held n c) refl refl refl))
-                  (λ c. waiting-answered (length log) n 0 c r.puts x.connections.answers ∙ (ap (λ w. w ++ filter (stands_in (queue.Ready n c)) (placed (length log) 0 r.puts)) (conn.waits c) ∙ sym (adds c)))),
+                  (λ c. waiting-answered (length log) n 0 c r.puts x.connections.answers ∙ (ap (λ w. w ++ filter (stands_in (queue.RouterAnswer n c)) (placed (length log) 0 r.puts)) (conn.waits c) ∙ sym (adds c)))),
               tt,
             ),
           );
@@ -92,4 +92,4 @@ route_on configs log at seed n true x y l links r s t started d kept =
 
 pub route_performs : (configs : List Config) (log : List Entry) (at seed n : ℕ) (x y : Node) (l links : Links) (r : Row) → NodeStands configs log n x → LinksStand configs log l
     → Routes (length log) n x y r → links ≡ l → Performs configs log (asked at seed (act.Router n)) n y links r
-route_performs configs log at seed n x y l links r s t d kept = route_on configs log at seed n (is_started x) x y l links r s t refl d kept
+route_performs configs log at seed n x y l links r s t d kept = route_on configs log at seed n (is_node_up x) x y l links r s t refl d kept

@@ -23,7 +23,7 @@ use Rattle.p2p_log_rules.specs.Facts.{is_up, events_of, latest_moment, taken, re
 use Rattle.p2p_log_rules.specs.Metering.{Metered, messages, is_of, metered_in, holds, limit_at, admitted_by}
 use Rattle.p2p_log_rules.specs.Effect.{only, receiver_row, receiving_row, recv_step_row}
 use Rattle.p2p_net_queues.specs.Lines.{HoldsLines}
-use Rattle.p2p_net_queues.specs.Rows.{taken_row}
+use Rattle.p2p_log_rules.specs.Rows.{taken_row}
 use Rattle.p2p_net_queues.specs.Tables.{pushed_at, popped_at}
 use Rattle.p2p_net_queues.proofs.Going.{line-taken}
 use Rattle.p2p_net_queues.proofs.Holding.{TakesFirst, holds_frame, holds_taken, holds_put}

@@ -13,7 +13,7 @@ use Rattle.p2p_net_links.specs.declared.links.Links.{Links}
 use Rattle.p2p_net_tracker.specs.Stands.{AsksRun, TrackerStands}
 use Rattle.p2p_net_tracker.proofs.Steps.{tracker_steps, gone_stands}
 use Rattle.p2p_net_node.specs.Places.{tracker}
-use Rattle.p2p_net_node.specs.Ready.{is_started}
+use Rattle.p2p_net_node.specs.Ready.{is_node_up}
 use Rattle.p2p_net_connecting.specs.Steps.{TrackerStepsBy}
 use Rattle.p2p_net_node.specs.Stands.{NodeStands}
 use Rattle.p2p_net_node.specs.declared.node.Node.{Node}
@@ -23,9 +23,9 @@ use Rattle.p2p_net_node.proofs.Readying.{started_is}
 use Rattle.p2p_net_node.proofs.TrackerAlone.{NamesTracker, track_alone}
 
 pub tracker_performs : (configs : List Config) (log : List Entry) (moment seed n : ℕ) (x y : Node) (l ls : Links) (r : Row) → NodeStands configs log n x → LinksStand configs log l → AsksRun log n
-    → TrackerStepsBy (is_started x) (length log) n moment seed x y r → ls ≡ l → Performs configs log (asked moment seed (act.Tracker n)) n y ls r
+    → TrackerStepsBy (is_node_up x) (length log) n moment seed x y r → ls ≡ l → Performs configs log (asked moment seed (act.Tracker n)) n y ls r
 unfolding row
-tracker_performs configs log moment seed n x y l ls r s t runs steps kept = by (is_started x) (sym (started_is configs log n x s)) steps
+tracker_performs configs log moment seed n x y l ls r s t runs steps kept = by (is_node_up x) (sym (started_is configs log n x s)) steps
   where
     named : NamesTracker log (asked moment seed (act.Tracker n)) n
     named = record { parts = λ p out. not_among (tracker ∷ []) p n n out; unlinked = refl; spawns = refl }

@@ -143,7 +143,7 @@ abbrev is_tracker : ℕ → Queue → Bool
 is_tracker n (queue.Tracker m) = m == n
 is_tracker n _ = false
 
-ready_apart : (n conn c : ℕ) (s : Side) → same_queue (queue.Ready n c) (queue.Link conn s) ≡ false
+ready_apart : (n conn c : ℕ) (s : Side) → same_queue (queue.RouterAnswer n c) (queue.Link conn s) ≡ false
 ready_apart n conn c side.Out = refl
 ready_apart n conn c side.In = refl
 
@@ -247,8 +247,8 @@ module _ (configs : List Config) (log : List Entry) (at seed conn n : ℕ) (half
       spawns : SpawnsNone log e n
       spawns c = live_connection-kept log e n c (ends_none-reply log e n c (ap (stops n) acts) lives) (connections_of-unmade log e n (ap (steps_spawner n) acts) c)
 
-      waits : HoldsLines (queue.Ready n) (log ++ e ∷ []) x.connections.answers
-      waits c = connects.waits c ∙ sym (beside (queue.Ready n c) refl refl (ready_apart n half.link c half.writes))
+      waits : HoldsLines (queue.RouterAnswer n) (log ++ e ∷ []) x.connections.answers
+      waits c = connects.waits c ∙ sym (beside (queue.RouterAnswer n c) refl refl (ready_apart n half.link c half.writes))
 
       receives : ReceivesNone configs log e n
       receives = step_receives configs log e n conn acts (λ c. beside (queue.Held n c) refl refl (held_apart n half.link c half.writes))

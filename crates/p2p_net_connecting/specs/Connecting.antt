@@ -23,7 +23,7 @@ use Rattle.p2p_net_links.specs.Cutting.{is_broken_at}
 use Rattle.p2p_net_links.specs.Links.{way_of, with_way, batch_way, write_frames_row}
 use Rattle.p2p_net_tracker.specs.Connecting.{connected_by}
 use Rattle.p2p_net_connecting.specs.Ending.{EndsKilled, EndsUnwritten}
-use Rattle.p2p_net_node.specs.Ready.{is_started}
+use Rattle.p2p_net_node.specs.Ready.{is_node_up}
 use Rattle.p2p_net_node.specs.Routing as routing
 use Rattle.p2p_net_node.specs.declared.node.Node.{Node}
 use Rattle.p2p_net_node.specs.Staying.{Stays}
@@ -98,4 +98,4 @@ SendStepsBy false k n conn at old new l links r = Stays old new r (only reply.Go
 SendStepsBy true k n conn at old new l links r = StepsHalf (half_by n old.connections l conn) k n conn at old new l links r
 
 abbrev pub SendSteps : ℕ → ℕ → ℕ → ℕ → Node → Node → Links → Links → Row → Type 0
-SendSteps k n conn at old new l links r = SendStepsBy (is_started old) k n conn at old new l links r
+SendSteps k n conn at old new l links r = SendStepsBy (is_node_up old) k n conn at old new l links r

@@ -11,7 +11,7 @@ use Rattle.p2p_log.specs.Lines.{name_of}
 use Rattle.p2p_log_rules.specs.declared.row.Half.{Half}
 use Rattle.p2p_log_rules.specs.declared.row.Row.{Row}
 use Rattle.p2p_log_rules.specs.Effect.{only, hold_row, other_side}
-use Rattle.p2p_net_queues.specs.Rows.{taken_row}
+use Rattle.p2p_log_rules.specs.Rows.{taken_row}
 use Rattle.p2p_net_queues.specs.Tables as table
 use Rattle.p2p_net_queues.specs.Tables.{waiting, popped_at}
 use Rattle.p2p_net_channels.specs.declared.arrival.Arrived.{Arrived}
@@ -30,7 +30,7 @@ use Rattle.p2p_net_links.specs.Links.{way_of, with_way}
 use Rattle.p2p_net_node.specs.Staying.{Stays}
 use Rattle.p2p_net_connecting.specs.Connecting.{half_by}
 use Rattle.p2p_net_connecting.specs.Ending.{EndsUnread, EndsRefused}
-use Rattle.p2p_net_node.specs.Ready.{is_started}
+use Rattle.p2p_net_node.specs.Ready.{is_node_up}
 use Rattle.p2p_net_node.specs.declared.node.Node.{Node}
 use Rattle.p2p_net_connecting.specs.declared.receiving.Arrival.{Arrival}
 
@@ -169,4 +169,4 @@ RecvStepsBy false k n conn at old new l links r = Stays old new r (only reply.Go
 RecvStepsBy true k n conn at old new l links r = StepsOn (half_by n old.connections l conn) k n conn at old new l links r
 
 abbrev pub RecvSteps : ℕ → ℕ → ℕ → ℕ → Node → Node → Links → Links → Row → Type 0
-RecvSteps k n conn at old new l links r = RecvStepsBy (is_started old) k n conn at old new l links r
+RecvSteps k n conn at old new l links r = RecvStepsBy (is_node_up old) k n conn at old new l links r

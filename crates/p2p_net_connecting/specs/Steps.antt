@@ -4,14 +4,14 @@ use Rattle.std.specs.Prelude.{◌≡◌, ℕ, Bool, true, false, Option, Some, N
 use Rattle.p2p_log.specs.declared.entry.Reply.TheVariants as reply
 use Rattle.p2p_log_rules.specs.declared.row.Row.{Row}
 use Rattle.p2p_log_rules.specs.Effect.{only}
-use Rattle.p2p_net_queues.specs.Rows.{taken_row}
+use Rattle.p2p_log_rules.specs.Rows.{taken_row}
 use Rattle.p2p_net_connections.specs.Connections.{answered, spawned_with}
 use Rattle.p2p_net_tracker.specs.Stepping as tracking
 use Rattle.p2p_base.specs.Queue.{oldest}
 use Rattle.p2p_net_connections.specs.Spawner.{taken_by, without_first}
 use Rattle.p2p_net_connections.specs.declared.spawner.Taken.{Taken}
 use Rattle.p2p_net_node.specs.Staying.{Stays, Tracks}
-use Rattle.p2p_net_node.specs.Ready.{is_started}
+use Rattle.p2p_net_node.specs.Ready.{is_node_up}
 use Rattle.p2p_net_node.specs.Routing as routing
 use Rattle.p2p_net_node.specs.declared.node.Node.{Node}
 
@@ -24,7 +24,7 @@ RoutesBy true k n old new r =
     × routing.Steps k old.router new.router r
 
 abbrev pub Routes : ℕ → ℕ → Node → Node → Row → Type 0
-Routes k n old new r = RoutesBy (is_started old) k n old new r
+Routes k n old new r = RoutesBy (is_node_up old) k n old new r
 
 -- ---- the tracker
 

@@ -142,7 +142,7 @@ pub fn send_step(
     ensures does { IfOk result (λ r. SendSteps turn.entry turn.node conn at node.old node.new links.old links.new r) }
     ensures failed { OnOk result (node.new.failed ≡ node.old.failed) }
 {
-    if !node.is_started() {
+    if !node.is_up() {
         return Ok(only(turn.alloc, Reply::Gone));
     }
     let Some(half) = half_at(node, turn.node, links, conn) else {

@@ -10,7 +10,7 @@ use Rattle.p2p_log.specs.declared.queue.Queue.TheVariants as queue
 use Rattle.p2p_log.specs.declared.item.Envelope.{Envelope}
 use Rattle.p2p_log.specs.declared.entry.Entry.{Entry}
 use Rattle.p2p_log.specs.Lines.{line}
-use Rattle.p2p_log_rules.specs.Connections.{begins, is_begun, has_run, runs}
+use Rattle.p2p_log_rules.specs.Connections.{begins_connection, is_begun, has_run, runs}
 use Rattle.p2p_log_rules.specs.Pings.{last_pinged, ping_is_due}
 use Rattle.p2p_log_rules.proofs.Pinging.{PingsWhenDue}
 use Rattle.p2p_log_rules.proofs.Connections.{is_begun-append, has_run-append}
@@ -54,7 +54,7 @@ counted_cond false now o = refl
 -- one begins, which does not run
 pub connections_begun :
     (configs : List Config) (log : List Entry) (e : Entry) (n conn : ℕ) (cs : Connections) → ConnectionsStand configs log n cs → ((c : ℕ) → PingsWhenDue configs log e n c) → SpawnsNone log e n → has_run log n conn ≡ false
-    → ((c : ℕ) → begins n c log e ≡ (c == conn)) → ((c : ℕ) → runs n c log e ≡ false) → ReceivesNone configs log e n → ((c : ℕ) → line (log ++ e ∷ []) (queue.Ready n c) ≡ line log (queue.Ready n c))
+    → ((c : ℕ) → begins_connection n c log e ≡ (c == conn)) → ((c : ℕ) → runs n c log e ≡ false) → ReceivesNone configs log e n → ((c : ℕ) → line (log ++ e ∷ []) (queue.RouterAnswer n c) ≡ line log (queue.RouterAnswer n c))
     → ConnectionsStand configs (log ++ e ∷ []) n (begun_with conn cs)
 connections_begun configs log e n conn cs s pinging spawns idle starts none receives lines = record {
   spawned = λ c. s.spawned c ∙ sym (spawns c);
@@ -87,7 +87,7 @@ connections_begun configs log e n conn cs s pinging spawns idle starts none rece
 pub connections_ran :
     (configs : List Config) (log : List Entry) (e : Entry) (n conn now : ℕ) (cs : Connections) (answers : List (ℕ × List Envelope)) → ConnectionsStand configs log n cs → ((c : ℕ) → PingsWhenDue configs log e n c) → SpawnsNone log e n → is_begun log n conn ≡ true
     → has_run log n conn ≡ false → e.event.at ≡ now
-    → ((c : ℕ) → begins n c log e ≡ (c == conn)) → ((c : ℕ) → runs n c log e ≡ (c == conn)) → ReceivesNone configs log e n → HoldsLines (queue.Ready n) (log ++ e ∷ []) answers
+    → ((c : ℕ) → begins_connection n c log e ≡ (c == conn)) → ((c : ℕ) → runs n c log e ≡ (c == conn)) → ReceivesNone configs log e n → HoldsLines (queue.RouterAnswer n) (log ++ e ∷ []) answers
     → ConnectionsStand configs (log ++ e ∷ []) n (record cs { stages = insert_entry nat_cmp cs.stages conn (stage.Running now); answers = answers })
 connections_ran configs log e n conn now cs answers s pinging spawns begun idle is_then steps takes receives waits = record {
   spawned = λ c. s.spawned c ∙ sym (spawns c);
@@ -117,8 +117,8 @@ connections_ran configs log e n conn now cs answers s pinging spawns begun idle 
 -- one that has begun does a step in which no ping of it is due, after which those run that did
 pub connections_stepped :
     (configs : List Config) (log : List Entry) (e : Entry) (n conn : ℕ) (cs : Connections) (answers : List (ℕ × List Envelope)) → ConnectionsStand configs log n cs → ((c : ℕ) → PingsWhenDue configs log e n c) → SpawnsNone log e n → is_begun log n conn ≡ true
-    → ((c : ℕ) → (c == conn) ≡ false → begins n c log e ≡ false) → ((c : ℕ) → has_run (log ++ e ∷ []) n c ≡ has_run log n c) → ping_is_due configs log n conn e.event.at ≡ false
-    → ReceivesNone configs log e n → HoldsLines (queue.Ready n) (log ++ e ∷ []) answers
+    → ((c : ℕ) → (c == conn) ≡ false → begins_connection n c log e ≡ false) → ((c : ℕ) → has_run (log ++ e ∷ []) n c ≡ has_run log n c) → ping_is_due configs log n conn e.event.at ≡ false
+    → ReceivesNone configs log e n → HoldsLines (queue.RouterAnswer n) (log ++ e ∷ []) answers
     → ConnectionsStand configs (log ++ e ∷ []) n (record cs { answers = answers })
 connections_stepped configs log e n conn cs answers s pinging spawns begun others same early receives waits = record {
   spawned = λ c. s.spawned c ∙ sym (spawns c);
@@ -134,7 +134,7 @@ connections_stepped configs log e n conn cs answers s pinging spawns begun other
     still_begun : (c : ℕ) (b : Bool) → (c == conn) ≡ b → is_begun (log ++ e ∷ []) n c ≡ is_begun log n c
     still_begun c true same =
         let is : is_begun log n c ≡ true = ap (is_begun log n) (eqb-true c conn same) ∙ begun in
-        is_begun-append log e n c ∙ (ap (λ b. b || begins n c log e) is ∙ sym is)
+        is_begun-append log e n c ∙ (ap (λ b. b || begins_connection n c log e) is ∙ sym is)
     still_begun c false other = is_begun-append log e n c ∙ (ap (λ b. is_begun log n c || b) (others c other) ∙ or-false (is_begun log n c) false refl)
 
     -- one that did not run and does not run took no answer
@@ -153,8 +153,8 @@ connections_stepped configs log e n conn cs answers s pinging spawns begun other
 -- one of which a ping is due does a step at this moment, after which those run that did
 pub connections_pinged :
     (configs : List Config) (log : List Entry) (e : Entry) (n conn now : ℕ) (cs : Connections) → ConnectionsStand configs log n cs → ((c : ℕ) → PingsWhenDue configs log e n c) → SpawnsNone log e n
-    → ((c : ℕ) → begins n c log e ≡ (c == conn)) → ((c : ℕ) → has_run (log ++ e ∷ []) n c ≡ has_run log n c) → ping_is_due configs log n conn now ≡ true → e.event.at ≡ now
-    → ReceivesNone configs log e n → HoldsLines (queue.Ready n) (log ++ e ∷ []) cs.answers
+    → ((c : ℕ) → begins_connection n c log e ≡ (c == conn)) → ((c : ℕ) → has_run (log ++ e ∷ []) n c ≡ has_run log n c) → ping_is_due configs log n conn now ≡ true → e.event.at ≡ now
+    → ReceivesNone configs log e n → HoldsLines (queue.RouterAnswer n) (log ++ e ∷ []) cs.answers
     → ConnectionsStand configs (log ++ e ∷ []) n (pinged_with true conn now cs)
 connections_pinged configs log e n conn now cs s pinging spawns steps same due is_then receives waits = record {
   spawned = λ c. s.spawned c ∙ sym (spawns c);

@@ -14,7 +14,7 @@ use Rattle.p2p_log.specs.declared.entry.Entry.{Entry}
 use Rattle.p2p_log.specs.QueueCode.{kind_of, owner_of, detail_of, same_queue}
 use Rattle.p2p_log.specs.Lines.{stands_in, placed}
 use Rattle.p2p_log_rules.specs.Told.{told}
-use Rattle.p2p_log_rules.specs.Connections.{begins, is_begun, is_answer, has_run, runs, is_ended}
+use Rattle.p2p_log_rules.specs.Connections.{begins_connection, is_begun, is_answer, has_run, runs, is_ended}
 use Rattle.p2p_log_rules.specs.Facts.{history_from, state_from, taken}
 use Rattle.p2p_log_rules.specs.Metering.{pings, ping_quota, limit_at, admitted_by, admitted}
 use Rattle.p2p_log_rules.specs.Pings.{ping_frequency_at, last_pinged}
@@ -37,14 +37,14 @@ pub or-false : (b c : Bool) → c ≡ false → (b || c) ≡ b
 or-false true c h = refl
 or-false false c h = h
 
-pub begun-kept : (log : List Entry) (e : Entry) (n conn : ℕ) → begins n conn log e ≡ false → is_begun (log ++ e ∷ []) n conn ≡ is_begun log n conn
-begun-kept log e n conn h = is_begun-append log e n conn ∙ or-false (is_begun log n conn) (begins n conn log e) h
+pub begun-kept : (log : List Entry) (e : Entry) (n conn : ℕ) → begins_connection n conn log e ≡ false → is_begun (log ++ e ∷ []) n conn ≡ is_begun log n conn
+begun-kept log e n conn h = is_begun-append log e n conn ∙ or-false (is_begun log n conn) (begins_connection n conn log e) h
 
 pub running-kept : (log : List Entry) (e : Entry) (n conn : ℕ) → runs n conn log e ≡ false → has_run (log ++ e ∷ []) n conn ≡ has_run log n conn
 running-kept log e n conn h = has_run-append log e n conn ∙ or-false (has_run log n conn) (runs n conn log e) h
 
 -- one of which no step is done is not answered
-pub idle-kept : (log : List Entry) (e : Entry) (n conn : ℕ) → begins n conn log e ≡ false → has_run (log ++ e ∷ []) n conn ≡ has_run log n conn
+pub idle-kept : (log : List Entry) (e : Entry) (n conn : ℕ) → begins_connection n conn log e ≡ false → has_run (log ++ e ∷ []) n conn ≡ has_run log n conn
 idle-kept log e n conn h = running-kept log e n conn (runs_is log e n conn ∙ ap (λ b. b && list_any is_answer (taken log e)) h)
 
 -- ---- what came over them
@@ -80,7 +80,7 @@ connections_new configs n = record {
   begun = λ conn. refl;
   running = λ conn. refl;
   pinged = λ conn. refl;
-  waits = holds_none (queue.Ready n);
+  waits = holds_none (queue.RouterAnswer n);
   holds = holds_none (queue.Held n);
   pings = meters_new nat_cmp [] (ping_quota (ping_frequency_at configs n)) (λ conn. admitted configs [] n conn pings) (is_ping_quota (ping_frequency_at configs n)) (λ conn. refl);
 }
@@ -88,7 +88,7 @@ connections_new configs n = record {
 -- none begins, and these answers wait
 pub connections_answered :
     (configs : List Config) (log : List Entry) (e : Entry) (n : ℕ) (cs : Connections) (answers : List (ℕ × List Envelope)) → ConnectionsStand configs log n cs → SpawnsNone log e n → BeginsNone log e n
-    → ReceivesNone configs log e n → HoldsLines (queue.Ready n) (log ++ e ∷ []) answers → ConnectionsStand configs (log ++ e ∷ []) n (record cs { answers = answers })
+    → ReceivesNone configs log e n → HoldsLines (queue.RouterAnswer n) (log ++ e ∷ []) answers → ConnectionsStand configs (log ++ e ∷ []) n (record cs { answers = answers })
 connections_answered configs log e n cs answers s spawns none receives waits = record {
   spawned = λ conn. s.spawned conn ∙ sym (spawns conn);
   reserved = λ conn. connected_by-longer log (e ∷ []) n (at cs.spawned conn) (s.reserved conn);
@@ -102,12 +102,12 @@ connections_answered configs log e n cs answers s spawns none receives waits = r
 
 -- an entry that leaves them alone
 pub connections_frame : (configs : List Config) (log : List Entry) (e : Entry) (n : ℕ) (cs : Connections) → ConnectionsStand configs log n cs → LeavesConnections configs log e n → ConnectionsStand configs (log ++ e ∷ []) n cs
-connections_frame configs log e n cs s q = connections_answered configs log e n cs cs.answers s q.spawns q.begins q.receives (holds_frame (queue.Ready n) log e cs.answers s.waits q.lines)
+connections_frame configs log e n cs s q = connections_answered configs log e n cs cs.answers s q.spawns q.begins q.receives (holds_frame (queue.RouterAnswer n) log e cs.answers s.waits q.lines)
 
 -- ---- answers that the node's router puts
 
 -- different connections have different queues
-pub same_ready : (n c d : ℕ) → is_at (nat_cmp c) d ≡ same_queue (queue.Ready n c) (queue.Ready n d)
+pub same_ready : (n c d : ℕ) → is_at (nat_cmp c) d ≡ same_queue (queue.RouterAnswer n c) (queue.RouterAnswer n d)
 same_ready n c d = grind (arith, nat_tests)
 
 ready_test : (n c k m d : ℕ) → (cond ((2 == k) && ((n == m) && (d == d))) (is_at (nat_cmp c) d) false) ≡ ((2 == k) && ((n == m) && (c == d)))
@@ -119,7 +119,7 @@ one_by false t w d c x h = sym (append-nil (waiting w c))
 
 -- one put more
 answer_one : (entry n place c : ℕ) (q : Queue) (i : Item) (w : List (ℕ × List Envelope))
-    → waiting (answered_in entry n place q i w) c ≡ waiting w c ++ cond (same_queue (queue.Ready n c) q) (record { entry = entry; place = place; queue = q; item = i } ∷ []) []
+    → waiting (answered_in entry n place q i w) c ≡ waiting w c ++ cond (same_queue (queue.RouterAnswer n c) q) (record { entry = entry; place = place; queue = q; item = i } ∷ []) []
 answer_one entry n place c q i w =
     let x : Envelope = record { entry = entry; place = place; queue = q; item = i } in
     one_by (is_answer_to n q) (is_at (nat_cmp c) (detail_of q)) w (detail_of q) c x refl
@@ -131,10 +131,10 @@ placed_more false l rest x = ap (λ k. k ++ rest) (append-nil l)
 
 -- each answer that an entry puts waits
 pub waiting-answered : (entry n place c : ℕ) (puts : List (Queue × Item)) (w : List (ℕ × List Envelope))
-    → waiting (answered entry n place puts w) c ≡ waiting w c ++ filter (stands_in (queue.Ready n c)) (placed entry place puts)
+    → waiting (answered entry n place puts w) c ≡ waiting w c ++ filter (stands_in (queue.RouterAnswer n c)) (placed entry place puts)
 waiting-answered entry n place c [] w = sym (append-nil (waiting w c))
 waiting-answered entry n place c (x ∷ xs) w =
     let own : Envelope = record { entry = entry; place = place; queue = x.0; item = x.1 } in
-    let rest = filter (stands_in (queue.Ready n c)) (placed entry (place + 1) xs) in
+    let rest = filter (stands_in (queue.RouterAnswer n c)) (placed entry (place + 1) xs) in
     waiting-answered entry n (place + 1) c xs (answered_by entry n place x w)
-    ∙ (ap (λ l. l ++ rest) (answer_one entry n place c x.0 x.1 w) ∙ placed_more (same_queue (queue.Ready n c) x.0) (waiting w c) rest own)
+    ∙ (ap (λ l. l ++ rest) (answer_one entry n place c x.0 x.1 w) ∙ placed_more (same_queue (queue.RouterAnswer n c) x.0) (waiting w c) rest own)

@@ -5,7 +5,7 @@ use Rattle.std.specs.Ordering.{nat_cmp}
 use Rattle.p2p_log.specs.declared.config.Config.{Config}
 use Rattle.p2p_log.specs.declared.queue.Queue.TheVariants as queue
 use Rattle.p2p_log.specs.declared.entry.Entry.{Entry}
-use Rattle.p2p_log_rules.specs.Connections.{begins, ends_connection, is_ended, live_connection}
+use Rattle.p2p_log_rules.specs.Connections.{begins_connection, ends_connection, is_ended, live_connection}
 use Rattle.p2p_log_rules.specs.Metering.{pings, ping_quota, limit_at, admitted_by, admitted}
 use Rattle.p2p_log_rules.specs.Pings.{ping_frequency_at}
 use Rattle.p2p_log_rules.specs.Spawning.{Spawned, connections_of}
@@ -26,7 +26,7 @@ use Rattle.p2p_net_connections.proofs.Pings.{pinged-kept}
 pub record EndsThose (configs : List Config) (log : List Entry) (e : Entry) (n : ℕ) (over : ℕ → Bool) : Type 0 where
   pub ends : (k : ℕ) → ends_connection n k log e ≡ over k
   pub makes_none : (k : ℕ) → connections_of (log ++ e ∷ []) n k ≡ connections_of log n k
-  pub no_begin : (k : ℕ) → begins n k log e ≡ false
+  pub no_begin : (k : ℕ) → begins_connection n k log e ≡ false
   pub no_ping : (k : ℕ) → admitted_by (limit_at configs n) n k pings log e ≡ []
 
 -- one that ends this connection alone
@@ -53,7 +53,7 @@ spawned_but false o = refl
 -- without them, and with what waits then, they stand for the log
 pub connections_over : (configs : List Config) (log : List Entry) (e : Entry) (n : ℕ) (over : ℕ → Bool) (cs new : Connections) → ConnectionsStand configs log n cs → EndsThose configs log e n over
     → ((k : ℕ) → at new.spawned k ≡ cond (over k) None (at cs.spawned k)) → new.stages ≡ cs.stages → new.pings ≡ cs.pings
-    → HoldsLines (queue.Ready n) (log ++ e ∷ []) new.answers → HoldsLines (queue.Held n) (log ++ e ∷ []) new.held
+    → HoldsLines (queue.RouterAnswer n) (log ++ e ∷ []) new.answers → HoldsLines (queue.Held n) (log ++ e ∷ []) new.held
     → ConnectionsStand configs (log ++ e ∷ []) n new
 connections_over configs log e n over cs new s those left stages quota waits holds = record {
   spawned = λ k.
@@ -74,6 +74,6 @@ connections_over configs log e n over cs new s those left stages quota waits hol
 -- without one
 pub connections_ended : (configs : List Config) (log : List Entry) (e : Entry) (n conn : ℕ) (cs new : Connections) → ConnectionsStand configs log n cs → EndsOne configs log e n conn
     → AreBut conn None cs.spawned new.spawned → new.stages ≡ cs.stages → new.pings ≡ cs.pings
-    → HoldsLines (queue.Ready n) (log ++ e ∷ []) new.answers → HoldsLines (queue.Held n) (log ++ e ∷ []) new.held
+    → HoldsLines (queue.RouterAnswer n) (log ++ e ∷ []) new.answers → HoldsLines (queue.Held n) (log ++ e ∷ []) new.held
     → ConnectionsStand configs (log ++ e ∷ []) n new
 connections_ended configs log e n conn = connections_over configs log e n (λ k. k == conn)

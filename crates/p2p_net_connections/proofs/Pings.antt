@@ -6,7 +6,7 @@ use Rattle.p2p_log.specs.declared.config.Config.{Config}
 use Rattle.p2p_log.specs.declared.item.Item.{Item}
 use Rattle.p2p_log.specs.declared.entry.Entry.{Entry}
 use Rattle.p2p_log.specs.declared.event.Event.{Event}
-use Rattle.p2p_log_rules.specs.Connections.{begins, is_answer, has_run, runs}
+use Rattle.p2p_log_rules.specs.Connections.{begins_connection, is_answer, has_run, runs}
 use Rattle.p2p_log_rules.specs.Facts.{taken}
 use Rattle.p2p_log_rules.specs.Pings.{ping_frequency_at, is_past, last_pinged, ping_is_due}
 use Rattle.p2p_log_rules.specs.Effect.{effect}
@@ -25,7 +25,7 @@ use Rattle.p2p_net_connections.specs.declared.connections.Stage.TheVariants as s
 
 -- one that did not count yet does so once it took its router's answer
 pinged_first : (frequency n conn : ℕ) (log : List Entry) (e : Entry) → pinged_by frequency n conn log e None ≡ cond (runs n conn log e) (Some e.event.at) None
-pinged_first frequency n conn log e = by (begins n conn log e) (list_any is_answer (taken log e)) ∙ ap (λ b. cond b (Some e.event.at) None) (sym (runs_is log e n conn))
+pinged_first frequency n conn log e = by (begins_connection n conn log e) (list_any is_answer (taken log e)) ∙ ap (λ b. cond b (Some e.event.at) None) (sym (runs_is log e n conn))
   where
     by : (steps answered : Bool) → cond steps (cond answered (Some e.event.at) None) None ≡ cond (steps && answered) (Some e.event.at) None
     by true answered = refl
@@ -50,14 +50,14 @@ pinged-early configs log e n conn from pings last early =
     let not_past : is_past frequency e.event.at (Some from) ≡ false = ap (is_past frequency e.event.at) (sym last) ∙ early in
     last_pinged-append configs log e n conn pings
     ∙ (ap (pinged_by frequency n conn log e) last
-    ∙ (ap (λ b. cond (begins n conn log e) (cond b (Some e.event.at) (Some from)) (Some from)) not_past ∙ (same (begins n conn log e) ∙ sym last)))
+    ∙ (ap (λ b. cond (begins_connection n conn log e) (cond b (Some e.event.at) (Some from)) (Some from)) not_past ∙ (same (begins_connection n conn log e) ∙ sym last)))
   where
     same : (b : Bool) → cond b (Some from) (Some from) ≡ Some from
     same true = refl
     same false = refl
 
 -- a ping is due, and its step is done
-pub pinged-due : (configs : List Config) (log : List Entry) (e : Entry) (n conn : ℕ) → PingsWhenDue configs log e n conn → ping_is_due configs log n conn e.event.at ≡ true → begins n conn log e ≡ true → last_pinged configs (log ++ e ∷ []) n conn ≡ Some e.event.at
+pub pinged-due : (configs : List Config) (log : List Entry) (e : Entry) (n conn : ℕ) → PingsWhenDue configs log e n conn → ping_is_due configs log n conn e.event.at ≡ true → begins_connection n conn log e ≡ true → last_pinged configs (log ++ e ∷ []) n conn ≡ Some e.event.at
 pinged-due configs log e n conn pings due steps =
     last_pinged-append configs log e n conn pings
     ∙ (ap (λ b. cond b (counted_from frequency e.event.at (taken log e) (last_pinged configs log n conn)) (last_pinged configs log n conn)) steps ∙ by (last_pinged configs log n conn) due)

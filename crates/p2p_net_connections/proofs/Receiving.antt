@@ -27,7 +27,7 @@ use Rattle.p2p_net_connections.proofs.Pings.{pinged-kept}
 -- these wait for the quotas, and what is kept of the quota of pings stands for those that were admitted
 received :
     (configs : List Config) (log : List Entry) (e : Entry) (n : ℕ) (cs : Connections) (w : List (ℕ × List Envelope)) (kept : KeptByKey ℕ) → ConnectionsStand configs log n cs → SpawnsNone log e n → BeginsNone log e n
-    → ((conn : ℕ) → line (log ++ e ∷ []) (queue.Ready n conn) ≡ line log (queue.Ready n conn)) → HoldsLines (queue.Held n) (log ++ e ∷ []) w
+    → ((conn : ℕ) → line (log ++ e ∷ []) (queue.RouterAnswer n conn) ≡ line log (queue.RouterAnswer n conn)) → HoldsLines (queue.Held n) (log ++ e ∷ []) w
     → Meters nat_cmp (log ++ e ∷ []) (ping_quota (ping_frequency_at configs n)) (λ conn. admitted configs (log ++ e ∷ []) n conn pings) kept → ConnectionsStand configs (log ++ e ∷ []) n (record cs { held = w; pings = kept })
 received configs log e n cs w kept s spawns none lines holds counts = record {
   spawned = λ conn. s.spawned conn ∙ sym (spawns conn);
@@ -35,7 +35,7 @@ received configs log e n cs w kept s spawns none lines holds counts = record {
   begun = λ conn. s.begun conn ∙ sym (begun-kept log e n conn (none conn));
   running = λ conn. s.running conn ∙ sym (idle-kept log e n conn (none conn));
   pinged = λ conn. s.pinged conn ∙ sym (pinged-kept configs log e n conn (none conn));
-  waits = holds_frame (queue.Ready n) log e cs.answers s.waits lines;
+  waits = holds_frame (queue.RouterAnswer n) log e cs.answers s.waits lines;
   holds = holds;
   pings = counts;
 }
@@ -43,14 +43,14 @@ received configs log e n cs w kept s spawns none lines holds counts = record {
 -- these wait for the quotas, and no ping is admitted
 pub connections_received :
     (configs : List Config) (log : List Entry) (e : Entry) (n : ℕ) (cs : Connections) (w : List (ℕ × List Envelope)) → ConnectionsStand configs log n cs → SpawnsNone log e n → BeginsNone log e n
-    → ((conn : ℕ) → line (log ++ e ∷ []) (queue.Ready n conn) ≡ line log (queue.Ready n conn)) → HoldsLines (queue.Held n) (log ++ e ∷ []) w
+    → ((conn : ℕ) → line (log ++ e ∷ []) (queue.RouterAnswer n conn) ≡ line log (queue.RouterAnswer n conn)) → HoldsLines (queue.Held n) (log ++ e ∷ []) w
     → ((conn : ℕ) → admitted_by (limit_at configs n) n conn pings log e ≡ []) → ConnectionsStand configs (log ++ e ∷ []) n (record cs { held = w })
 connections_received configs log e n cs w s spawns none lines holds admits = received configs log e n cs w cs.pings s spawns none lines holds (pings_kept configs log e n cs s admits)
 
 -- the quota of pings was asked for one of a connection, which it admitted where it may, and these wait for the quotas
 pub connections_metered :
     (configs : List Config) (log : List Entry) (e : Entry) (n conn now : ℕ) (cs : Connections) (w : List (ℕ × List Envelope)) → ConnectionsStand configs log n cs → SpawnsNone log e n → BeginsNone log e n
-    → ((c : ℕ) → line (log ++ e ∷ []) (queue.Ready n c) ≡ line log (queue.Ready n c)) → latest_moment (events_of log) ≤ now → e.event.at ≡ now
+    → ((c : ℕ) → line (log ++ e ∷ []) (queue.RouterAnswer n c) ≡ line log (queue.RouterAnswer n c)) → latest_moment (events_of log) ≤ now → e.event.at ≡ now
     → ((d : ℕ) → admitted_by (limit_at configs n) n d pings log e ≡ cond ((d == conn) && may_ping cs conn now) (now ∷ []) [])
     → HoldsLines (queue.Held n) (log ++ e ∷ []) w → ConnectionsStand configs (log ++ e ∷ []) n (record (ping_metered conn now cs) { held = w })
 connections_metered configs log e n conn now cs w s spawns none lines late is_then adds holds =

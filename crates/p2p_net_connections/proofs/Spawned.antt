@@ -31,7 +31,7 @@ on_cond false c o = refl
 pub connections_spawned :
     (configs : List Config) (log : List Entry) (e : Entry) (n link : ℕ) (m : Metadata Key) (cs : Connections) → ConnectionsStand configs log n cs
     → ((conn : ℕ) → live_connection (log ++ e ∷ []) n conn ≡ with_named (length log) (Some (record { key = peer_of m; link = link })) (live_connection log n) conn)
-    → IsReservedOver log n link m → BeginsNone log e n → ReceivesNone configs log e n → ((conn : ℕ) → line (log ++ e ∷ []) (queue.Ready n conn) ≡ line log (queue.Ready n conn))
+    → IsReservedOver log n link m → BeginsNone log e n → ReceivesNone configs log e n → ((conn : ℕ) → line (log ++ e ∷ []) (queue.RouterAnswer n conn) ≡ line log (queue.RouterAnswer n conn))
     → ConnectionsStand configs (log ++ e ∷ []) n (spawned_with (length log) link m cs)
 connections_spawned configs log e n link m cs s made side none receives lines = record {
   spawned = λ conn.

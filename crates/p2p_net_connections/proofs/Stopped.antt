@@ -14,7 +14,7 @@ use Rattle.p2p_log.specs.Lines.{name_of, live, line, stays, stands_in}
 use Rattle.p2p_log.specs.QueueCode.{same_queue}
 use Rattle.p2p_log.proofs.QueueNames.{queue_from_same}
 use Rattle.p2p_log.proofs.Queues.{same_queue-sym}
-use Rattle.p2p_log_rules.specs.Connections.{begins, is_begun, has_run, live_connection, is_end}
+use Rattle.p2p_log_rules.specs.Connections.{begins_connection, is_begun, has_run, live_connection, is_end}
 use Rattle.p2p_log_rules.specs.Facts.{taken}
 use Rattle.p2p_log_rules.specs.Metering.{pings, ping_quota, limit_at, admitted_by, admitted}
 use Rattle.p2p_log_rules.specs.Pings.{ping_frequency_at, last_pinged}
@@ -49,10 +49,10 @@ other_waits : (w : List (ℕ × List Envelope)) (p q : Queue) (k : ℕ) (items :
     → waiting w k ≡ filter (stands_in p) (without q items)
 other_waits w p q k items other apart is = is ∙ sym (line_kept q p items apart (same_queue-sym q p ∙ other))
 
-pub connections_left_other : (n : ℕ) (cs : Connections) (q : Queue) (items : List Envelope) → ((conn : ℕ) → same_queue (queue.Ready n conn) q ≡ false) → ((conn : ℕ) → same_queue (queue.Held n conn) q ≡ false)
+pub connections_left_other : (n : ℕ) (cs : Connections) (q : Queue) (items : List Envelope) → ((conn : ℕ) → same_queue (queue.RouterAnswer n conn) q ≡ false) → ((conn : ℕ) → same_queue (queue.Held n conn) q ≡ false)
     → AreApart items → ConnectionsLeft n cs items → ConnectionsLeft n cs (filter (stays (map name_of (filter (stands_in q) items))) items)
 connections_left_other n cs q items not_ready not_held apart h = record {
-  answers = λ conn. other_waits cs.answers (queue.Ready n conn) q conn items (not_ready conn) apart (h.answers conn);
+  answers = λ conn. other_waits cs.answers (queue.RouterAnswer n conn) q conn items (not_ready conn) apart (h.answers conn);
   held = λ conn. other_waits cs.held (queue.Held n conn) q conn items (not_held conn) apart (h.held conn);
 }
 
@@ -77,21 +77,21 @@ cleared_waits queue_of same w k items apart is j =
 pub held_left : (n conn : ℕ) (cs : Connections) (items : List Envelope) → AreApart items → ConnectionsLeft n cs items
     → ConnectionsLeft n (record cs { held = cleared_at cs.held conn }) (filter (stays (map name_of (filter (stands_in (queue.Held n conn)) items))) items)
 held_left n conn cs items apart h = record {
-  answers = λ c. other_waits cs.answers (queue.Ready n c) (queue.Held n conn) c items (kinds n c conn) apart (h.answers c);
+  answers = λ c. other_waits cs.answers (queue.RouterAnswer n c) (queue.Held n conn) c items (kinds n c conn) apart (h.answers c);
   held = cleared_waits (queue.Held n) (same_held n) cs.held conn items apart h.held;
 }
   where
-    kinds : (n c d : ℕ) → same_queue (queue.Ready n c) (queue.Held n d) ≡ false
+    kinds : (n c d : ℕ) → same_queue (queue.RouterAnswer n c) (queue.Held n d) ≡ false
     kinds n c d = refl
 
 pub answers_left : (n conn : ℕ) (cs : Connections) (items : List Envelope) → AreApart items → ConnectionsLeft n cs items
-    → ConnectionsLeft n (record cs { answers = cleared_at cs.answers conn }) (filter (stays (map name_of (filter (stands_in (queue.Ready n conn)) items))) items)
+    → ConnectionsLeft n (record cs { answers = cleared_at cs.answers conn }) (filter (stays (map name_of (filter (stands_in (queue.RouterAnswer n conn)) items))) items)
 answers_left n conn cs items apart h = record {
-  answers = cleared_waits (queue.Ready n) (same_ready n) cs.answers conn items apart h.answers;
-  held = λ c. other_waits cs.held (queue.Held n c) (queue.Ready n conn) c items (kinds n c conn) apart (h.held c);
+  answers = cleared_waits (queue.RouterAnswer n) (same_ready n) cs.answers conn items apart h.answers;
+  held = λ c. other_waits cs.held (queue.Held n c) (queue.RouterAnswer n conn) c items (kinds n c conn) apart (h.held c);
 }
   where
-    kinds : (n c d : ℕ) → same_queue (queue.Held n c) (queue.Ready n d) ≡ false
+    kinds : (n c d : ℕ) → same_queue (queue.Held n c) (queue.RouterAnswer n d) ≡ false
     kinds n c d = refl
 
 -- ---- the connections once the node has stopped
@@ -114,7 +114,7 @@ stops_connections configs log e n stop = record {
   admits = λ conn. admitted-kept configs log e n conn pings (no_ping conn);
 }
   where
-    none : (conn : ℕ) → begins n conn log e ≡ false
+    none : (conn : ℕ) → begins_connection n conn log e ≡ false
     none conn = begins_act log e n conn (act.Stop stop.by_start n) stop.acts
 
     no_ping : (conn : ℕ) → admitted_by (limit_at configs n) n conn pings log e ≡ []

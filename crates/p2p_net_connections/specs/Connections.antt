@@ -44,7 +44,7 @@ spawned_with conn link reservation cs = record cs { spawned = insert_entry nat_c
 
 -- whether a queue is of the answers to a connection of the node
 abbrev pub is_answer_to : ℕ → Queue → Bool
-is_answer_to n q = same_queue (queue.Ready n (detail_of q)) q
+is_answer_to n q = same_queue (queue.RouterAnswer n (detail_of q)) q
 
 -- the answers with one put more, where it is for a connection of the node
 abbrev pub answered_in : ℕ → ℕ → ℕ → Queue → Item → List (ℕ × List Envelope) → List (ℕ × List Envelope)

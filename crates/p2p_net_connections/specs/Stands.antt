@@ -5,7 +5,7 @@ use Rattle.p2p_log.specs.declared.config.Config.{Config}
 use Rattle.p2p_log.specs.declared.queue.Queue.TheVariants as queue
 use Rattle.p2p_log.specs.declared.entry.Entry.{Entry}
 use Rattle.p2p_log.specs.Lines.{line}
-use Rattle.p2p_log_rules.specs.Connections.{begins, is_begun, has_run, live_connection}
+use Rattle.p2p_log_rules.specs.Connections.{begins_connection, is_begun, has_run, live_connection}
 use Rattle.p2p_log_rules.specs.Metering.{pings, ping_quota, limit_at, admitted_by, admitted}
 use Rattle.p2p_log_rules.specs.Pings.{ping_frequency_at, last_pinged}
 use Rattle.p2p_net_queues.specs.Lines.{HoldsLines}
@@ -21,7 +21,7 @@ pub record ConnectionsStand (configs : List Config) (log : List Entry) (n : ℕ)
   pub begun : (conn : ℕ) → is_some (at cs.stages conn) ≡ is_begun log n conn
   pub running : (conn : ℕ) → runs_on (at cs.stages conn) ≡ has_run log n conn
   pub pinged : (conn : ℕ) → pinged_on (at cs.stages conn) ≡ last_pinged configs log n conn
-  pub waits : HoldsLines (queue.Ready n) log cs.answers
+  pub waits : HoldsLines (queue.RouterAnswer n) log cs.answers
   -- what waits for their quotas, and the quota of pings counts what each of them admitted
   pub holds : HoldsLines (queue.Held n) log cs.held
   pub pings : Meters nat_cmp log (ping_quota (ping_frequency_at configs n)) (λ conn. admitted configs log n conn pings) cs.pings
@@ -32,7 +32,7 @@ SpawnsNone log e n = (conn : ℕ) → live_connection (log ++ e ∷ []) n conn �
 
 -- an entry in which none of them begins or pings, and none takes an answer
 abbrev pub BeginsNone : List Entry → Entry → ℕ → Type 0
-BeginsNone log e n = (conn : ℕ) → begins n conn log e ≡ false
+BeginsNone log e n = (conn : ℕ) → begins_connection n conn log e ≡ false
 
 -- an entry that leaves alone what waits for their quotas, and in which none admits a ping
 pub record ReceivesNone (configs : List Config) (log : List Entry) (e : Entry) (n : ℕ) : Type 0 where
@@ -44,4 +44,4 @@ pub record LeavesConnections (configs : List Config) (log : List Entry) (e : Ent
   pub spawns : SpawnsNone log e n
   pub begins : BeginsNone log e n
   pub receives : ReceivesNone configs log e n
-  pub lines : (conn : ℕ) → line (log ++ e ∷ []) (queue.Ready n conn) ≡ line log (queue.Ready n conn)
+  pub lines : (conn : ℕ) → line (log ++ e ∷ []) (queue.RouterAnswer n conn) ≡ line log (queue.RouterAnswer n conn)

@@ -26,7 +26,7 @@ message_by (Some t) = Some (t.name, t.link)
 
 -- the answers and what waits for the quotas of the node's connections are those of these that stand in their queues
 pub record ConnectionsLeft (n : ℕ) (cs : Connections) (items : List Envelope) : Type 0 where
-  pub answers : (conn : ℕ) → waiting cs.answers conn ≡ filter (stands_in (queue.Ready n conn)) items
+  pub answers : (conn : ℕ) → waiting cs.answers conn ≡ filter (stands_in (queue.RouterAnswer n conn)) items
   pub held : (conn : ℕ) → waiting cs.held conn ≡ filter (stands_in (queue.Held n conn)) items
 
 -- the messages of the spawner have the names of those of these that stand in its queue

@@ -64,7 +64,7 @@ fn is_answer(item: &Item) -> bool
     ensures { result ≡ answer_test item.now }
 {
     match item {
-        Item::Answer => true,
+        Item::RouterAnswer => true,
         _ => false,
     }
 }
@@ -128,7 +128,7 @@ impl Connections {
         ensures { OnOk result (self.new ≡ record self.old { answers = answered_by turn.entry turn.node place put.now self.old.answers }) }
     {
         let conn = put.0.detail();
-        let queue = Queue::Ready {
+        let queue = Queue::RouterAnswer {
             node: turn.node,
             conn,
         };

@@ -54,7 +54,7 @@ use Rattle.p2p_net_links.proofs.Drops.{DropsNone, drops_none-act}
 use Rattle.p2p_net_links.proofs.Changes.{links_frame, links_opened, is_ok_reply, OpensNone, exchanges_less, Opens, openings_unanswered, openings_linkless, openings_opened}
 use Rattle.p2p_net_dialing.specs.Linking.{arrives, with_arrival, Arrives, opened, IsLinked}
 use Rattle.p2p_net_node.specs.Places.{Part, dialer, listener, same_part, at, names}
-use Rattle.p2p_net_node.specs.Ready.{is_started}
+use Rattle.p2p_net_node.specs.Ready.{is_node_up}
 use Rattle.p2p_net_node.specs.Stands.{NodeStands, WorldStands}
 use Rattle.p2p_net_node.specs.declared.node.Node.{Node}
 use Rattle.p2p_net_dialing.proofs.Attempting.{DoesTo, does_itself, other_attempt, other_named}
@@ -173,7 +173,7 @@ module _ (configs : List Config) (log : List Entry) (moment seed name n m : ℕ)
   first_dialer : DialerStands configs log n c.first.dialing
   first_dialer = first_stands.each dialer
 
-  runs : is_started c.second ≡ up
+  runs : is_node_up c.second ≡ up
   runs = started_is configs log m c.second second_stands
 
   key : c.first.config.public_key ≡ key_at configs n

@@ -64,7 +64,7 @@ use Rattle.p2p_net_tracker.proofs.Changes.{told_apart, kept_open}
 use Rattle.p2p_net_tracker.proofs.DialerSteps.{is_taken_of, tracker_dialed, told_moved, mailbox_moved, none_left, answer_left}
 use Rattle.p2p_net_tracker.proofs.Steps.{none_taken, first_taken}
 use Rattle.p2p_net_node.specs.Places as place
-use Rattle.p2p_net_node.specs.Ready.{is_started}
+use Rattle.p2p_net_node.specs.Ready.{is_node_up}
 use Rattle.p2p_net_dialing.specs.Dialing.{DialedBy, DialerStepsBy}
 use Rattle.p2p_net_node.specs.Stands.{NodeStands}
 use Rattle.p2p_net_node.specs.declared.node.Node.{Node}
@@ -479,9 +479,9 @@ module _ (configs : List Config) (log : List Entry) (moment seed n : ℕ) (x y :
       by_line answers m.dialer what refl refl tracked.dialer (subst (λ o. dialing.Steps o k moment seed x.dialing y.dialing m y.tracker.mailbox what) actor_is steps) tracks
 
 pub dialer_performs : (configs : List Config) (log : List Entry) (moment seed n : ℕ) (x y : Node) (l ls : Links) (r : Row) → NodeStands configs log n x → LinksStand configs log l
-    → DialerStepsBy (is_started x) (length log) n moment seed x y r → ls ≡ l → Performs configs log (asked moment seed (act.Dialer n)) n y ls r
+    → DialerStepsBy (is_node_up x) (length log) n moment seed x y r → ls ≡ l → Performs configs log (asked moment seed (act.Dialer n)) n y ls r
 unfolding row
-dialer_performs configs log moment seed n x y l ls r s t steps kept = by (is_started x) (sym (started_is configs log n x s)) steps
+dialer_performs configs log moment seed n x y l ls r s t steps kept = by (is_node_up x) (sym (started_is configs log n x s)) steps
   where
     by : (b : Bool) → is_up log n ≡ b → DialerStepsBy b (length log) n moment seed x y r → Performs configs log (asked moment seed (act.Dialer n)) n y ls r
     by true up h = steps_performs configs log moment seed n x y l ls r s t up h.rest kept h.dialed h.steps h.tracks

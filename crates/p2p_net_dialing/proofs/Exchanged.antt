@@ -33,7 +33,7 @@ use Rattle.p2p_log_rules.specs.Attempting.{Attempt, attempts_of}
 use Rattle.p2p_log_rules.specs.Effect.{only, row, effect, entry_of}
 use Rattle.p2p_log_rules.specs.Facts.{key_at}
 use Rattle.p2p_log_rules.specs.Cutting.{is_cut}
-use Rattle.p2p_log_rules.specs.Links.{openings_of, listening_ends_of, is_dialed, accepts, exchanged, dialing_puts, listening_puts, finished_row, verdict, finish_by}
+use Rattle.p2p_log_rules.specs.Links.{openings_of, listening_ends_of, is_dialed, accepts_peer, exchanged, dialing_puts, listening_puts, finished_row, verdict, finish_by}
 use Rattle.p2p_log_rules.proofs.AttemptTellings.{attempts_of-kept}
 use Rattle.p2p_log_rules.proofs.Dialing.{dials_of-kept}
 use Rattle.p2p_log_rules.proofs.Touches.{in_ends}
@@ -77,7 +77,7 @@ use Rattle.p2p_net_tracker.proofs.Leaves.{LeavesTracker}
 
 -- ---- what is said of the keys is what the log says
 
-end_accepted : (configs : List Config) (log : List Entry) (m link : ℕ) (y : Node) → NodeStands configs log m y → (end : Option ListeningEnd) → listening_ends_of log m link ≡ end → accepts_end end y ≡ accepts log m end
+end_accepted : (configs : List Config) (log : List Entry) (m link : ℕ) (y : Node) → NodeStands configs log m y → (end : Option ListeningEnd) → listening_ends_of log m link ≡ end → accepts_end end y ≡ accepts_peer log m end
 end_accepted configs log m link y s None is = refl
 end_accepted configs log m link y s (Some listening.Arriving) is = refl
 end_accepted configs log m link y s (Some (listening.Handshake h)) is = end_accepts configs log m link h y.listening (s.each listener) is
@@ -135,11 +135,11 @@ still_simulates configs log moment seed link ok nodes new l links r s rep is qui
 
 -- a told queue is not an attempt's
 told_apart : (m n a : ℕ) (p : Queue) → is_told m p ≡ true → same_queue p (queue.Attempt n a) ≡ false
-told_apart m n a (queue.Update j) h = refl
+told_apart m n a (queue.Addresses j) h = refl
 told_apart m n a (queue.Dialer j) h = refl
 told_apart m n a (queue.Control j c) h = refl
-told_apart m n a (queue.Answer j c) h = refl
-told_apart m n a (queue.Updates j c) h = refl
+told_apart m n a (queue.PeerSet j c) h = refl
+told_apart m n a (queue.PeerSetUpdates j c) h = refl
 told_apart m n a (queue.Blocked j c) h = refl
 told_apart m n a (queue.Handshake j c) h = refl
 told_apart m n a _ h = cc

@@ -169,11 +169,11 @@ none_gone log q xs waits p = away_none log p ∙ by (same_queue q p) refl
 
 -- what a tracker tells does not wait for a spawner
 told_unspawned : (n m : ℕ) (p : Queue) → is_told n p ≡ true → same_queue p (queue.Spawner m) ≡ false
-told_unspawned n m (queue.Update k) h = refl
+told_unspawned n m (queue.Addresses k) h = refl
 told_unspawned n m (queue.Dialer k) h = refl
 told_unspawned n m (queue.Control k e) h = refl
-told_unspawned n m (queue.Answer k e) h = refl
-told_unspawned n m (queue.Updates k e) h = refl
+told_unspawned n m (queue.PeerSet k e) h = refl
+told_unspawned n m (queue.PeerSetUpdates k e) h = refl
 told_unspawned n m (queue.Blocked k e) h = refl
 told_unspawned n m (queue.Handshake k e) h = refl
 told_unspawned n m _ h = cc

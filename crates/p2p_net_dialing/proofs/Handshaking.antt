@@ -39,11 +39,11 @@ use Rattle.p2p_log_rules.specs.Facts.{taken}
 use Rattle.p2p_log_rules.specs.Dropping.{LinkEnd}
 use Rattle.p2p_log_rules.specs.Puts.{is_spawn, broke_off}
 use Rattle.p2p_log_rules.specs.Effect.{only, entry_of}
-use Rattle.p2p_log_rules.specs.Attempting.{left_ends, gone_on_row, ready_row}
+use Rattle.p2p_log_rules.specs.Attempting.{left_ends, handed_on_row}
 use Rattle.p2p_log_rules.specs.Handshakes.{ends_handshake, is_handshaking, is_finished, Peer, peer_at, source_at}
 use Rattle.p2p_log_rules.specs.Handshaking as log_rule
 use Rattle.p2p_log_rules.specs.Handshaking.{handshake_deadline, ended_row, exchanged_row}
-use Rattle.p2p_log_rules.specs.Rows.{is_spawner_full}
+use Rattle.p2p_log_rules.specs.Rows.{is_spawner_full, taken_row}
 use Rattle.p2p_log_laws.proofs.HandedSides.{HandshakeDialed}
 use Rattle.p2p_net_queues.specs.Board.{held}
 use Rattle.p2p_net_queues.specs.Tables as table
@@ -415,17 +415,17 @@ module _ (configs : List Config) (log : List Entry) (moment seed name n : ℕ) (
         by_room : (b : Bool) → full ≡ b → turn ≡ ends input.Item (outcome.Ready reserved) h way_left → Done
         by_room true is_full so =
             ends_here (item.Listen (Some key)) (outcome.Ready reserved) back said so refl
-            (ap (λ b. ready_row n b key peer.link (name_of z) zs) is_full)
+            (ap (λ b. handed_on_row n b key peer.link (name_of z) zs) is_full)
             (λ same hands. connection_refused (length log) n ended_left mid y steps.taken r same h.arrival.link reserved hands (refuses_is ∙ is_full)) (reserved, refl, refl) given
         by_room false room so =
             ends_here (item.Listen (Some key)) (outcome.Ready reserved) (connection h.arrival.link reserved) said so refl
-            (ap (λ b. ready_row n b key peer.link (name_of z) zs) room ∙ ap (λ w. ready_row n false key w (name_of z) zs) (sym is.link))
+            (ap (λ b. handed_on_row n b key peer.link (name_of z) zs) room ∙ ap (λ w. handed_on_row n false key w (name_of z) zs) (sym is.link))
             (λ same hands. connection_asked (length log) n ended_left mid y steps.taken r same h.arrival.link reserved hands (refuses_is ∙ room)) tt over_link
 
       -- its peer may connect
       accepted : z.item ≡ item.Acceptable true → turn ≡ goes_on input.Item (record h { is_accepted = true }) way_left → Done
       accepted said so =
-          let due : Row = gone_on_row (name_of z) in
+          let due : Row = taken_row (name_of z) in
           let items : List Item = item.Acceptable true ∷ [] in
           served_performs (goes_on input.Item (record h { is_accepted = true }) way_left) true false None None nothing way_left items due so (ap (λ b. handshake.Served true b None None) is.runs) is.runs is.link
           (λ same hands. nothing_asked (length log) n way_left mid y steps.taken r same hands)

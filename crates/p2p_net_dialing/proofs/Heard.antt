@@ -33,11 +33,11 @@ use Rattle.p2p_net_tracker.specs.Stands.{is_told}
 
 -- a queue in which a tracker tells something is no listener's
 pub told_no_arrivals : (n m : ℕ) (q : Queue) → is_told n q ≡ true → same_queue (queue.Arrivals m) q ≡ false
-told_no_arrivals n m (queue.Update j) h = refl
+told_no_arrivals n m (queue.Addresses j) h = refl
 told_no_arrivals n m (queue.Dialer j) h = refl
 told_no_arrivals n m (queue.Control j c) h = refl
-told_no_arrivals n m (queue.Answer j c) h = refl
-told_no_arrivals n m (queue.Updates j c) h = refl
+told_no_arrivals n m (queue.PeerSet j c) h = refl
+told_no_arrivals n m (queue.PeerSetUpdates j c) h = refl
 told_no_arrivals n m (queue.Blocked j c) h = refl
 told_no_arrivals n m (queue.Handshake j c) h = refl
 told_no_arrivals n m _ h = cc
@@ -78,7 +78,7 @@ arrivals_elsewhere : (n : ℕ) (s : Side) (j : ℕ) → same_queue (queue.Arriva
 arrivals_elsewhere n side.Out j = refl
 arrivals_elsewhere n side.In j = refl
 
-update_elsewhere : (n : ℕ) (s : Side) (j : ℕ) → same_queue (queue.Update n) (queue.Link j s) ≡ false
+update_elsewhere : (n : ℕ) (s : Side) (j : ℕ) → same_queue (queue.Addresses n) (queue.Link j s) ≡ false
 update_elsewhere n side.Out j = refl
 update_elsewhere n side.In j = refl
 
@@ -96,8 +96,8 @@ leaves_first log q z zs first off rep puts unput = record {
 
 module _ (log : List Entry) (n : ℕ) where
   -- where it takes an update
-  pub update_leaves : (z : Envelope) (zs : List Envelope) (rep : Reply) → line log (queue.Update n) ≡ z ∷ zs → LeavesLinks log (record { reply = rep; takes = name_of z ∷ []; puts = []; ends = [] })
-  update_leaves z zs rep first = leaves_first log (queue.Update n) z zs first (update_elsewhere n) rep [] (λ s j. refl)
+  pub update_leaves : (z : Envelope) (zs : List Envelope) (rep : Reply) → line log (queue.Addresses n) ≡ z ∷ zs → LeavesLinks log (record { reply = rep; takes = name_of z ∷ []; puts = []; ends = [] })
+  update_leaves z zs rep first = leaves_first log (queue.Addresses n) z zs first (update_elsewhere n) rep [] (λ s j. refl)
 
   -- an arrival
   pub arrival_leaves : (z : Envelope) (zs : List Envelope) (rep : Reply) (key : Key) (told : GatesReply) → line log (queue.Arrivals n) ≡ z ∷ zs

@@ -8,15 +8,15 @@ use Rattle.p2p_log_rules.specs.declared.row.Row.{Row}
 use Rattle.p2p_net_gates.specs.Listening.{arrived}
 use Rattle.p2p_net_links.specs.declared.links.Links.{Links}
 use Rattle.p2p_net_dialing.specs.Linking.{Answers, arrives, with_arrival, Arrives, opened, IsLinked}
-use Rattle.p2p_net_node.specs.Ready.{is_started}
+use Rattle.p2p_net_node.specs.Ready.{is_node_up}
 use Rattle.p2p_net_node.specs.declared.node.Node.{Node}
 
 module _ (k name n m : ℕ) (from : SocketAddr) (nodes : List Node) (x y after : Node) (links : Bool) (told : Row) (at_first : slice_get nodes n ≡ Some x) (at_second : slice_get nodes m ≡ Some y)
-    (links_is : links ≡ is_started y) (answers : Answers k n name links x after told) (comes : Bool) (comes_is : comes ≡ arrives links told.reply) (l : Links) where
+    (links_is : links ≡ is_node_up y) (answers : Answers k n name links x after told) (comes : Bool) (comes_is : comes ≡ arrives links told.reply) (l : Links) where
   abbrev arrival : Item
   arrival = item.Arrival from x.config.public_key k
 
-  arrives_by : (b : Bool) → comes ≡ b → arrives (is_started y) told.reply ≡ b
+  arrives_by : (b : Bool) → comes ≡ b → arrives (is_node_up y) told.reply ≡ b
   arrives_by b is = ap (λ l. arrives l told.reply) (sym links_is) ∙ (sym comes_is ∙ is)
 
   linked : (b : Bool) (new : List Node) (ls : Links) (r : Row) → comes ≡ b → r ≡ with_arrival b m arrival told → Arrives b m k (length told.puts) from x.config.public_key (slice_set nodes n after) new

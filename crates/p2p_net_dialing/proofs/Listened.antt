@@ -17,7 +17,7 @@ use Rattle.p2p_log_rules.specs.Listening.{gate_rules_at, known_of, listener_row}
 use Rattle.p2p_log_rules.proofs.Dropping.{all_of, drops_of-listener}
 use Rattle.p2p_net_links.specs.Stands.{LinksStand}
 use Rattle.p2p_net_links.specs.declared.links.Links.{Links}
-use Rattle.p2p_net_node.specs.Ready.{is_started}
+use Rattle.p2p_net_node.specs.Ready.{is_node_up}
 use Rattle.p2p_net_dialing.specs.Dialing.{Listens, DropsUnless, ListenerStepsBy}
 use Rattle.p2p_net_node.specs.Stands.{NodeStands}
 use Rattle.p2p_net_node.specs.declared.node.Node.{Node}
@@ -40,13 +40,13 @@ listens_performs configs log moment seed n x y l ls row after over s t late up d
     (step_row configs log moment seed n ∙ ap (listener_drops log n) (sym h.did.row_is))
 
 pub listener_performs : (configs : List Config) (log : List Entry) (moment seed n : ℕ) (x y : Node) (l ls : Links) (r : Row) → NodeStands configs log n x → LinksStand configs log l → latest_moment (events_of log) ≤ moment
-    → ListenerStepsBy (is_started x) (length log) n moment x y l ls r → Performs configs log (asked moment seed (act.Listener n)) n y ls r
+    → ListenerStepsBy (is_node_up x) (length log) n moment x y l ls r → Performs configs log (asked moment seed (act.Listener n)) n y ls r
 unfolding row
-listener_performs configs log moment seed n x y l ls r s t late steps = by (is_started x) (sym (started_is configs log n x s)) steps
+listener_performs configs log moment seed n x y l ls r s t late steps = by (is_node_up x) (sym (started_is configs log n x s)) steps
   where
     by : (b : Bool) → is_up log n ≡ b → ListenerStepsBy b (length log) n moment x y l ls r → Performs configs log (asked moment seed (act.Listener n)) n y ls r
     by true up h = listens_performs configs log moment seed n x y l ls h.row r h.refused s t late up h.steps h.drops
     by false down h =
         stays_performs configs log (asked moment seed (act.Listener n)) n x y l ls r reply.Gone s t
-        (ap (λ b. listener_drops log n (cond b (log_rule.listener_turn (gate_rules_at configs n) (known_of configs log n) (log_rule.has_place configs log n) n (length log) moment (line log (queue.Update n)) (line log (queue.Arrivals n))) (only reply.Gone))) down)
+        (ap (λ b. listener_drops log n (cond b (log_rule.listener_turn (gate_rules_at configs n) (known_of configs log n) (log_rule.has_place configs log n) n (length log) moment (line log (queue.Addresses n)) (line log (queue.Arrivals n))) (only reply.Gone))) down)
         refl h.0.0 h.0.1 h.1

@@ -107,7 +107,7 @@ module _ (configs : List Config) (log : List Entry) (moment seed n : ℕ) (x y :
   place_free = log_rule.has_place configs log n
 
   abbrev updates : List Envelope
-  updates = line log (queue.Update n)
+  updates = line log (queue.Addresses n)
 
   abbrev arrivals : List Envelope
   arrivals = line log (queue.Arrivals n)
@@ -204,21 +204,21 @@ module _ (configs : List Config) (log : List Entry) (moment seed n : ℕ) (x y :
     turn_update : turn ≡ T_update
     turn_update = ap (update_turn actor known m k moment) heard
 
-    line_update : (p : Queue) → line (log ++ e due_update ∷ []) p ≡ cond (same_queue (queue.Update n) p) [] (line log p)
+    line_update : (p : Queue) → line (log ++ e due_update ∷ []) p ≡ cond (same_queue (queue.Addresses n) p) [] (line log p)
     line_update p =
         line-append log (e due_update) p
-        ∙ (ap (λ xs. xs ++ []) (first_left log (queue.Update n) z [] one p) ∙ append-nil (cond (same_queue (queue.Update n) p) [] (line log p)))
+        ∙ (ap (λ xs. xs ++ []) (first_left log (queue.Addresses n) z [] one p) ∙ append-nil (cond (same_queue (queue.Addresses n) p) [] (line log p)))
 
     -- the only one is the first
-    only_first : (p : Queue) (b : Bool) → same_queue (queue.Update n) p ≡ b → cond b [] (line log p) ≡ cond b (drop 1 (line log p)) (line log p)
-    only_first p true same = sym (ap (drop 1) (ap (line log) (queue_from_same (queue.Update n) p same) ∙ one))
+    only_first : (p : Queue) (b : Bool) → same_queue (queue.Addresses n) p ≡ b → cond b [] (line log p) ≡ cond b (drop 1 (line log p)) (line log p)
+    only_first p true same = sym (ap (drop 1) (ap (line log) (queue_from_same (queue.Addresses n) p same) ∙ one))
     only_first p false other = refl
 
     updated : Tracks (Some takes.Update) → Done
     updated tracks =
         let row_is : listener_row configs log n moment ≡ due_update = row_by (z ∷ []) arrivals one refl in
-        let told : held x.tracker.told (queue.Update n) ≡ z ∷ [] = tracked.told (queue.Update n) (eq-eqb n n refl) ∙ one in
-        let took_is : taken log (e due_update) ≡ item.Addresses ips ∷ [] = first_taken log (e due_update) (queue.Update n) z [] one refl ∙ ap (λ i. i ∷ []) is in
+        let told : held x.tracker.told (queue.Addresses n) ≡ z ∷ [] = tracked.told (queue.Addresses n) (eq-eqb n n refl) ∙ one in
+        let took_is : taken log (e due_update) ≡ item.Addresses ips ∷ [] = first_taken log (e due_update) (queue.Addresses n) z [] one refl ∙ ap (λ i. i ∷ []) is in
         performs due_update row_is (tracks.0 ∙ ap (λ (xs : List Envelope). record { reply = reply.Ok; takes = taken_names true xs; puts = []; ends = [] }) told)
         (tracker_updated configs log (e due_update) n x.tracker y.tracker tracked
         (record {
@@ -229,7 +229,7 @@ module _ (configs : List Config) (log : List Entry) (moment seed n : ℕ) (x y :
           no_admission = begins_none due_update refl;
           rest = tracks.1.1 ∙ ap (λ w. record x.tracker { mailbox = w; told = y.tracker.told }) (way_is T_update turn_update);
           mailbox = line_update (queue.Tracker n);
-          lines = λ p own. line_update p ∙ only_first p (same_queue (queue.Update n) p) refl;
+          lines = λ p own. line_update p ∙ only_first p (same_queue (queue.Addresses n) p) refl;
           told = tracks.1.0;
         }))
         (hears_by due_update T_update (item.Addresses ips ∷ []) turn_update took_is tt

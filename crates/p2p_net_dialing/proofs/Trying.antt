@@ -35,7 +35,7 @@ use Rattle.p2p_log.specs.Lines.{name_of, goes, stays, stands_in, live, line}
 use Rattle.p2p_log.proofs.Queues.{same_queue-refl}
 use Rattle.p2p_log_rules.proofs.Connections.{ends_untold}
 use Rattle.p2p_log_rules.specs.declared.row.Row.{Row}
-use Rattle.p2p_log_rules.specs.Attempting.{Attempt, DialRules, dial_rules_at, drawn_address, dialing, resolved, attempts_of, left_ends, given_up_row, gone_on_row, resolved_row, ready_row, link_of, attempt_took_row, attempt_turn, attempt_by, attempt_row}
+use Rattle.p2p_log_rules.specs.Attempting.{Attempt, DialRules, dial_rules_at, drawn_address, dialing, resolved, attempts_of, left_ends, given_up_row, resolved_row, handed_on_row, link_of, attempt_took_row, attempt_turn, attempt_by, attempt_row}
 use Rattle.p2p_log_rules.specs.Tellings.{or_new}
 use Rattle.p2p_log_rules.specs.Told.{took_tells}
 use Rattle.p2p_log_rules.proofs.Attempts.{attempt_told}
@@ -47,7 +47,7 @@ use Rattle.p2p_log_rules.specs.Dropping.{LinkEnd, dialing_end, attempt_drops, at
 use Rattle.p2p_log_rules.specs.Puts.{gave_up, ends_attempt}
 use Rattle.p2p_log_rules.specs.Effect.{only, row, entry_of}
 use Rattle.p2p_log_rules.specs.Facts.{taken}
-use Rattle.p2p_log_rules.specs.Rows.{is_spawner_full}
+use Rattle.p2p_log_rules.specs.Rows.{is_spawner_full, taken_row}
 use Rattle.p2p_log_rules.proofs.Handshakes.{handshakes_of-apart}
 use Rattle.p2p_log_laws.proofs.HandedSides.{AttemptDialed}
 use Rattle.p2p_net_queues.specs.Board.{held}
@@ -90,11 +90,11 @@ use Rattle.p2p_net_node.proofs.Performing.{asked, Performs}
 
 -- what waits for an attempt is not what a tracker tells
 told_elsewhere : (n name : ℕ) (p : Queue) → is_told n p ≡ true → same_queue (queue.Attempt n name) p ≡ false
-told_elsewhere n name (queue.Update k) h = refl
+told_elsewhere n name (queue.Addresses k) h = refl
 told_elsewhere n name (queue.Dialer k) h = refl
 told_elsewhere n name (queue.Control k e) h = refl
-told_elsewhere n name (queue.Answer k e) h = refl
-told_elsewhere n name (queue.Updates k e) h = refl
+told_elsewhere n name (queue.PeerSet k e) h = refl
+told_elsewhere n name (queue.PeerSetUpdates k e) h = refl
 told_elsewhere n name (queue.Blocked k e) h = refl
 told_elsewhere n name _ h = cc
 
@@ -358,22 +358,22 @@ module _ (configs : List Config) (log : List Entry) (moment seed name n : ℕ) (
           row_is h.1.0
 
       -- it ends with its reservation
-      is_ready : (c : Bool) → full ≡ c → dialer_of log (link_of b.answer) ≡ Some n → attempt_row configs log name n moment seed ≡ ready_row n c b.key (link_of b.answer) (name_of z) zs
+      is_ready : (c : Bool) → full ≡ c → dialer_of log (link_of b.answer) ≡ Some n → attempt_row configs log name n moment seed ≡ handed_on_row n c b.key (link_of b.answer) (name_of z) zs
           → HandsOn (Some (link_of b.answer, reserved)) (length log) n None mid y ended_row r → AreBut name None x.dialing.attempts mid.dialing.attempts → mid.tracker.mailbox ≡ m → Done
       is_ready true is_full dial row_is hands but same =
           gives_up (connection_refused (length log) n m mid y ended_row r same (link_of b.answer) reserved hands (refuses_is ∙ is_full)) row_is but
       is_ready false room dial row_is hands but same =
           turned ended_row (connection (link_of b.answer) reserved) m [] None None refl (connection_asked (length log) n m mid y ended_row r same (link_of b.answer) reserved hands (refuses_is ∙ room))
-          (row_is ∙ ap (λ key. ready_row n false key (link_of b.answer) (name_of z) zs) (sym peer)) refl tt (subst (IsReservedOver log n (link_of b.answer)) (sym dialed) dial) but
+          (row_is ∙ ap (λ key. handed_on_row n false key (link_of b.answer) (name_of z) zs) (sym peer)) refl tt (subst (IsReservedOver log n (link_of b.answer)) (sym dialed) dial) but
           refl (all_gone log q z zs first) refl
 
       -- it goes on
-      lasts : (next : Attempt) → next.key ≡ b.key → attempt_row configs log name n moment seed ≡ gone_on_row (name_of z) → took (z.item ∷ []) (Some b) ≡ Some next
-          → steps.tried ≡ record { row = gone_on_row (name_of z); released = None; ready = None }
+      lasts : (next : Attempt) → next.key ≡ b.key → attempt_row configs log name n moment seed ≡ taken_row (name_of z) → took (z.item ∷ []) (Some b) ≡ Some next
+          → steps.tried ≡ record { row = taken_row (name_of z); released = None; ready = None }
           → AreBut name (Some (attempt_of g name reserved next zs)) x.dialing.attempts mid.dialing.attempts → mid.tracker.mailbox ≡ m → Done
       lasts next key row_is becomes tried_is but same =
-          turned (gone_on_row (name_of z)) nothing m zs (Some (attempt_of g name reserved next zs)) (Some next) refl (asked_nothing (gone_on_row (name_of z)) tried_is same) row_is refl tt tt but
-          (becoming (gone_on_row (name_of z)) (Some next) refl becomes) (first_left log q z zs first) (reserved, dialed ∙ ap metadata.Dialer (sym key), refl)
+          turned (taken_row (name_of z)) nothing m zs (Some (attempt_of g name reserved next zs)) (Some next) refl (asked_nothing (taken_row (name_of z)) tried_is same) row_is refl tt tt but
+          (becoming (taken_row (name_of z)) (Some next) refl becomes) (first_left log q z zs first) (reserved, dialed ∙ ap metadata.Dialer (sym key), refl)
 
       module _ (addresses : List SocketAddr) (item_is : z.item ≡ item.Resolved addresses) where
         -- the address that it has, or the one that was drawn

@@ -68,8 +68,8 @@ DialerStepsBy true k n at seed old new r = DialerSteps k n at seed old new r
 abbrev pub ListenedBy : Option Took → ℕ → ℕ → Tracker → Tracker → Row → Type 0
 ListenedBy None k n old new r = (r ≡ only reply.Idle) × (new ≡ record old { mailbox = new.mailbox })
 ListenedBy (Some takes.Update) k n old new r =
-    (r ≡ updated_row (held old.told (queue.Update n)))
-    × (((q : Queue) → held new.told q ≡ (if same_queue (queue.Update n) q then drop 1 (held old.told q) else held old.told q))
+    (r ≡ updated_row (held old.told (queue.Addresses n)))
+    × (((q : Queue) → held new.told q ≡ (if same_queue (queue.Addresses n) q then drop 1 (held old.told q) else held old.told q))
     × (new ≡ record old { mailbox = new.mailbox; told = new.told }))
 ListenedBy (Some (takes.Arrival name told refused asked)) k n old new r =
     (r ≡ record { reply = reply.Gates told; takes = name ∷ []; puts = asked_puts n asked; ends = [] })

@@ -15,7 +15,7 @@ use Rattle.p2p_net_queues.specs.Tables as table
 use Rattle.p2p_net_gates.specs.Attempts.{AnswersDial}
 use Rattle.p2p_net_gates.specs.Listening.{arrived}
 use Rattle.p2p_net_node.specs.Staying.{TellsAttempt}
-use Rattle.p2p_net_node.specs.Ready.{is_started}
+use Rattle.p2p_net_node.specs.Ready.{is_node_up}
 use Rattle.p2p_net_node.specs.declared.node.Node.{Node}
 
 -- the dial of an attempt of the node n is answered, with a link or a refusal
@@ -52,7 +52,7 @@ pub record IsLinked (k name n m : ℕ) (from : SocketAddr) (old new : List Node)
   -- what the attempt is told, and its node then
   pub told : Row
   pub after : Node
-  pub answers : Answers k n name (is_started second) first after told
-  pub row : r ≡ with_arrival (arrives (is_started second) told.reply) m (item.Arrival from first.config.public_key k) told
-  pub arrival : Arrives (arrives (is_started second) told.reply) m k (length told.puts) from first.config.public_key (slice_set old n after) new
-  pub links_are : links ≡ opened (arrives (is_started second) told.reply) k (record { node = n; attempt = name; to = m }) l
+  pub answers : Answers k n name (is_node_up second) first after told
+  pub row : r ≡ with_arrival (arrives (is_node_up second) told.reply) m (item.Arrival from first.config.public_key k) told
+  pub arrival : Arrives (arrives (is_node_up second) told.reply) m k (length told.puts) from first.config.public_key (slice_set old n after) new
+  pub links_are : links ≡ opened (arrives (is_node_up second) told.reply) k (record { node = n; attempt = name; to = m }) l

@@ -1,6 +1,6 @@
 //! One step of the dialer.
 ghost use Rattle.std.specs.Prelude.{◌≡◌, IfOk, OnOk};
-ghost use Rattle.p2p_net_node.specs.Ready.{is_started as is_started_test};
+ghost use Rattle.p2p_net_node.specs.Ready.{is_node_up};
 ghost use Rattle.p2p_net_dialing.specs.Dialing.{DialerStepsBy};
 
 use p2p_log::Reply;
@@ -12,10 +12,10 @@ use std::alloc::AllocError;
 
 /// One step of the dialer, at a moment and with a seed.
 pub fn dial_step(node: &mut Node, turn: Turn, at: u64, seed: u64) -> Result<Row, AllocError>
-    ensures does { IfOk result (λ r. DialerStepsBy (is_started_test node.old) turn.entry turn.node at seed node.old node.new r) }
+    ensures does { IfOk result (λ r. DialerStepsBy (is_node_up node.old) turn.entry turn.node at seed node.old node.new r) }
     ensures failed { OnOk result (node.new.failed ≡ node.old.failed) }
 {
-    if !node.is_started() {
+    if !node.is_up() {
         return Ok(only(turn.alloc, Reply::Gone));
     }
     let way = &mut node.tracker.mailbox;

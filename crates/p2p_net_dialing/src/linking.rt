@@ -34,7 +34,7 @@ pub fn link(
     requires in_range { EndsThere ends nodes.old.items }
     ensures { IfOk result (λ r. IsLinked entry attempt ends.dials ends.listens from nodes.old.items nodes.new.items links.old links.new r) }
 {
-    let runs = nodes[ends.listens as usize].is_started();
+    let runs = nodes[ends.listens as usize].is_up();
     let first = &mut nodes[ends.dials as usize];
     let key = first.config.public_key;
     let turn = Turn {

@@ -1,6 +1,6 @@
 //! One step of the listener.
 ghost use Rattle.std.specs.Prelude.{◌≡◌, IfOk, OnOk};
-ghost use Rattle.p2p_net_node.specs.Ready.{is_started as is_started_test};
+ghost use Rattle.p2p_net_node.specs.Ready.{is_node_up};
 ghost use Rattle.p2p_net_dialing.specs.Dialing.{Listens, ListenerStepsBy};
 
 use crate::handing::drop_unless;
@@ -44,10 +44,10 @@ pub fn listen_step(
     links: &mut Links,
     at: u64,
 ) -> Result<Row, AllocError>
-    ensures does { IfOk result (λ r. ListenerStepsBy (is_started_test node.old) turn.entry turn.node at node.old node.new links.old links.new r) }
+    ensures does { IfOk result (λ r. ListenerStepsBy (is_node_up node.old) turn.entry turn.node at node.old node.new links.old links.new r) }
     ensures failed { OnOk result (node.new.failed ≡ node.old.failed) }
 {
-    if !node.is_started() {
+    if !node.is_up() {
         return Ok(only(turn.alloc, Reply::Gone));
     }
     let (mut row, refused) = listen(node, turn, at)?;

@@ -144,14 +144,14 @@ abbrev gates_in : Option Config → Gates
 gates_in None = no_gates
 gates_in (Some c) = gates_of c
 
-abbrev rules_of : Gates → DialRules
-rules_of g = record { timeout = g.dial_timeout; handshake_timeout = g.handshake_timeout; private = g.allow_private_ips }
+abbrev dial_rules_by : Gates → DialRules
+dial_rules_by g = record { timeout = g.dial_timeout; handshake_timeout = g.handshake_timeout; private = g.allow_private_ips }
 
 -- how long an attempt may take, before and after its link, and which addresses it may dial
-rules_are : (configs : List Config) (n : ℕ) → rules_of (gates_at configs n) ≡ dial_rules_at configs n
+rules_are : (configs : List Config) (n : ℕ) → dial_rules_by (gates_at configs n) ≡ dial_rules_at configs n
 rules_are configs n = by (slice_get configs n)
   where
-    by : (o : Option Config) → rules_of (gates_in o) ≡ dial_rules_in o
+    by : (o : Option Config) → dial_rules_by (gates_in o) ≡ dial_rules_in o
     by None = refl
     by (Some c) = refl
 

@@ -16,7 +16,9 @@ use Rattle.p2p_log_rules.specs.Listening.{known_of}
 use Rattle.p2p_log_rules.specs.Tellings.{Telling}
 use Rattle.p2p_log_rules.specs.Tellings as telling
 use Rattle.p2p_log_rules.specs.Told.{tells, told}
-use Rattle.p2p_log_rules.proofs.Families.{kind, kinds_of, has, are_apart, untold_of}
+use Rattle.p2p_log_rules.proofs.TellingKinds.{Kind}
+use Rattle.p2p_log_rules.proofs.TellingKinds as kind
+use Rattle.p2p_log_rules.proofs.Families.{telling_kind, kinds_of, has, are_apart, untold_of}
 use Rattle.p2p_log_rules.proofs.Handshakes.{of_handshakes, handshakes_of-kept}
 use Rattle.p2p_log_rules.proofs.HandshakeTook.{has_taken-append}
 use Rattle.p2p_log_rules.proofs.Ignoring.{reads_some, any_or-none}
@@ -42,13 +44,13 @@ of_listener n (telling.link_opened m j link to) = to == n
 of_listener n (telling.node_stopped m) = m == n
 of_listener n t = of_steps n t
 
-abbrev pub step_kinds : List ℕ
-step_kinds = 22 ∷ 23 ∷ 24 ∷ 25 ∷ 47 ∷ 48 ∷ []
+abbrev pub step_kinds : List Kind
+step_kinds = kind.arrival_taken ∷ kind.handshake_begun ∷ kind.handshake_took ∷ kind.handshake_ended ∷ kind.update_taken ∷ kind.arrival_judged ∷ []
 
-abbrev pub listener_kinds : List ℕ
-listener_kinds = 1 ∷ 10 ∷ step_kinds
+abbrev pub listener_kinds : List Kind
+listener_kinds = kind.node_stopped ∷ kind.link_opened ∷ step_kinds
 
-step_reads : (n : ℕ) (t : Telling) → has step_kinds (kind t) ≡ false → of_steps n t ≡ false
+step_reads : (n : ℕ) (t : Telling) → has step_kinds (telling_kind t) ≡ false → of_steps n t ≡ false
 step_reads n (telling.arrival_taken m link handshake) h = cc
 step_reads n (telling.handshake_begun m k) h = cc
 step_reads n (telling.handshake_took m k items) h = cc
@@ -57,7 +59,7 @@ step_reads n (telling.update_taken m addresses) h = cc
 step_reads n (telling.arrival_judged m at from g) h = cc
 step_reads n _ h = refl
 
-listener_reads : (n : ℕ) (t : Telling) → has listener_kinds (kind t) ≡ false → of_listener n t ≡ false
+listener_reads : (n : ℕ) (t : Telling) → has listener_kinds (telling_kind t) ≡ false → of_listener n t ≡ false
 listener_reads n (telling.link_opened m j link to) h = cc
 listener_reads n (telling.node_stopped m) h = cc
 listener_reads n (telling.arrival_taken m link handshake) h = cc

@@ -10,7 +10,7 @@ use Rattle.p2p_log_rules.specs.Attempting.{Attempt, DialRules, dial_rules_at, at
 use Rattle.p2p_log_rules.specs.Standing.{standing}
 use Rattle.p2p_log_rules.specs.Tellings.{Telling, last_told}
 use Rattle.p2p_log_rules.specs.Tellings as telling
-use Rattle.p2p_log_rules.specs.Told.{Begun, begins, ends, begins_attempt, attempts_in, told}
+use Rattle.p2p_log_rules.specs.Told.{Begun, begun_as, ends, begins_attempt, attempts_in, told}
 use Rattle.p2p_log_rules.proofs.Attempts.{attempt_one, begun_or, attempt_after, attempt_told, attempt_in-more}
 use Rattle.p2p_log_rules.proofs.Standing.{started, stood_after, stood_told, standing-more}
 
@@ -19,8 +19,8 @@ module _ (rules : DialRules) (n k : ℕ) where
   among ks = list_any (λ j. k == j) ks
 
   -- one telling more begins it, or ends it, or does neither
-  after : (t : Telling) (o : Option Attempt) → is_some (attempt_after rules n k t o) ≡ (not (ends n k t) && is_some o || is_some (begins n k t))
-  after t o = by (begins n k t) (ends n k t) o
+  after : (t : Telling) (o : Option Attempt) → is_some (attempt_after rules n k t o) ≡ (not (ends n k t) && is_some o || is_some (begun_as n k t))
+  after t o = by (begun_as n k t) (ends n k t) o
     where
       by : (b : Option Begun) (over : Bool) (o : Option Attempt) → is_some (begun_or rules n k b (cond over None (option_map (attempt_one rules n k t) o))) ≡ (not over && is_some o || is_some b)
       by None true o = refl
@@ -54,7 +54,7 @@ module _ (rules : DialRules) (n k : ℕ) where
       by true is rest = ap (λ i. among (cond (not (ends n i t)) (j ∷ kept) kept)) (sym (eqb-true k j is)) ∙ itself (ends n k t) rest
       by false is rest = other (ends n j t) is ∙ (rest ∙ ap (λ b. not (ends n k t) && (b || among ks)) (sym is))
 
-  begun_named : (t : Telling) → among (started (begins_attempt n t)) ≡ is_some (begins n k t)
+  begun_named : (t : Telling) → among (started (begins_attempt n t)) ≡ is_some (begun_as n k t)
   begun_named (telling.attempt_begun m j key ingress at) = by (m == n) (k == j) refl
     where
       by : (here same : Bool) → (k == j) ≡ same → among (started (cond here (Some j) None)) ≡ is_some {T = Begun} (cond (here && same) (Some (record { key = key; ingress = ingress; at = at })) None)
@@ -63,7 +63,7 @@ module _ (rules : DialRules) (n k : ℕ) where
       by false same is = refl
   begun_named _ = refl
 
-  names_after : (t : Telling) (ks : List ℕ) → among (stood_after (begins_attempt n) (ends n) t ks) ≡ (not (ends n k t) && among ks || is_some (begins n k t))
+  names_after : (t : Telling) (ks : List ℕ) → among (stood_after (begins_attempt n) (ends n) t ks) ≡ (not (ends n k t) && among ks || is_some (begun_as n k t))
   names_after t ks =
       list_any-append (λ j. k == j) (filter (λ j. not (ends n j t)) ks) (started (begins_attempt n t))
       ∙ (ap (λ b. b || among (started (begins_attempt n t))) (without_ended t ks) ∙ ap (λ b. not (ends n k t) && among ks || b) (begun_named t))
@@ -72,7 +72,7 @@ module _ (rules : DialRules) (n k : ℕ) where
   all_after [] o ks h = h
   all_after (t ∷ ts) o ks h =
       all_after ts (attempt_after rules n k t o) (stood_after (begins_attempt n) (ends n) t ks)
-      (after t o ∙ (ap (λ b. not (ends n k t) && b || is_some (begins n k t)) h ∙ sym (names_after t ks)))
+      (after t o ∙ (ap (λ b. not (ends n k t) && b || is_some (begun_as n k t)) h ∙ sym (names_after t ks)))
 
   told_among : (ts : List Telling) → is_some (attempt_in n k rules ts) ≡ among (attempts_in ts n)
   unfolding standing last_told

@@ -34,7 +34,9 @@ use Rattle.p2p_log_rules.specs.Tellings as telling
 use Rattle.p2p_log_rules.specs.Told.{done_tells, link_tells, tells, told}
 use Rattle.p2p_log_rules.proofs.Cutting.{cut_kinds, is_cut-kept, is_cut-none}
 use Rattle.p2p_log_rules.proofs.Dialed.{link_kinds, dialer_of-kept, dialer_of-linked}
-use Rattle.p2p_log_rules.proofs.Families.{kind, kinds_of, has, are_apart}
+use Rattle.p2p_log_rules.proofs.TellingKinds.{Kind, same_kind}
+use Rattle.p2p_log_rules.proofs.TellingKinds as kind
+use Rattle.p2p_log_rules.proofs.Families.{telling_kind, kinds_of, has, are_apart}
 use Rattle.p2p_log_rules.proofs.Links.{exchange_kinds, openings_of-kept, openings_of-linked, openings_of-finished, openings_of-none}
 use Rattle.p2p_log_rules.proofs.LinkTells.{weaker, tells_act, TellsNone, apart_none}
 use Rattle.p2p_log_rules.proofs.Tellings.{or_left}
@@ -95,8 +97,8 @@ dialers_new k = refl
 -- ---- an entry that leaves alone who dialed, between whom keys are exchanged, and which links were cut
 
 -- the kinds of tellings by which a link is made, an exchange over one ends, and one is cut
-abbrev pub opening_kinds : List ℕ
-opening_kinds = 10 ∷ 21 ∷ 75 ∷ []
+abbrev pub opening_kinds : List Kind
+opening_kinds = kind.link_opened ∷ kind.exchange_ended ∷ kind.link_cut ∷ []
 
 -- it tells of none
 abbrev pub OpensNone : List Entry → Entry → Type 0
@@ -104,7 +106,7 @@ OpensNone log e = TellsNone (told log) log e opening_kinds
 
 -- it ends no exchange, and cuts no link
 pub exchanges_less : (log : List Entry) (e : Entry) → OpensNone log e → TellsNone (told log) log e exchange_kinds
-exchanges_less log e none = weaker (λ t. has opening_kinds (kind t)) (λ t. has exchange_kinds (kind t)) (λ t h. less (10 == kind t) (21 == kind t) (75 == kind t) h) (tells (told log) log e) none
+exchanges_less log e none = weaker (λ t. has opening_kinds (telling_kind t)) (λ t. has exchange_kinds (telling_kind t)) (λ t h. less (same_kind kind.link_opened (telling_kind t)) (same_kind kind.exchange_ended (telling_kind t)) (same_kind kind.link_cut (telling_kind t)) h) (tells (told log) log e) none
   where
     less : (a b c : Bool) → (a || (b || (c || false))) ≡ false → (a || (b || false)) ≡ false
     less true b c h = h
@@ -112,7 +114,7 @@ exchanges_less log e none = weaker (λ t. has opening_kinds (kind t)) (λ t. has
     less false false c h = refl
 
 pub cuts_less : (log : List Entry) (e : Entry) → OpensNone log e → TellsNone (told log) log e cut_kinds
-cuts_less log e none = weaker (λ t. has opening_kinds (kind t)) (λ t. has cut_kinds (kind t)) (λ t h. less (10 == kind t) (21 == kind t) (75 == kind t) h) (tells (told log) log e) none
+cuts_less log e none = weaker (λ t. has opening_kinds (telling_kind t)) (λ t. has cut_kinds (telling_kind t)) (λ t h. less (same_kind kind.link_opened (telling_kind t)) (same_kind kind.exchange_ended (telling_kind t)) (same_kind kind.link_cut (telling_kind t)) h) (tells (told log) log e) none
   where
     less : (a b c : Bool) → (a || (b || (c || false))) ≡ false → (c || false) ≡ false
     less true b c h = cc
@@ -124,10 +126,10 @@ abbrev pub DialsNone : List Entry → Entry → Type 0
 DialsNone log e = TellsNone (told log) log e link_kinds
 
 pub dials_less : (log : List Entry) (e : Entry) → OpensNone log e → DialsNone log e
-dials_less log e none = weaker (λ t. has opening_kinds (kind t)) (λ t. has link_kinds (kind t)) less (tells (told log) log e) none
+dials_less log e none = weaker (λ t. has opening_kinds (telling_kind t)) (λ t. has link_kinds (telling_kind t)) less (tells (told log) log e) none
   where
-    less : (t : Telling) → has opening_kinds (kind t) ≡ false → has link_kinds (kind t) ≡ false
-    less t none = ap (λ b. b || false) (or_left (10 == kind t) ((21 == kind t) || ((75 == kind t) || false)) none)
+    less : (t : Telling) → has opening_kinds (telling_kind t) ≡ false → has link_kinds (telling_kind t) ≡ false
+    less t none = ap (λ b. b || false) (or_left (same_kind kind.link_opened (telling_kind t)) ((same_kind kind.exchange_ended (telling_kind t)) || ((same_kind kind.link_cut (telling_kind t)) || false)) none)
 
 -- by its act
 pub openings_unmoved : (log : List Entry) (e : Entry) → are_apart (kinds_of e.event.act) opening_kinds ≡ true → OpensNone log e
@@ -147,21 +149,21 @@ openings_unanswered log e h = by e.event.act refl
   where
     by : (a : Act) → e.event.act ≡ a → OpensNone log e
     by (act.Connect d from n to) acts =
-        ap (list_any (λ t. has opening_kinds (kind t))) (tells_act (told log) log e (act.Connect d from n to) acts)
-        ∙ undone (λ t. has opening_kinds (kind t)) e.reply (telling.dial_answered n d (length log) ∷ link_tells n d (length log) to e.puts) h
+        ap (list_any (λ t. has opening_kinds (telling_kind t))) (tells_act (told log) log e (act.Connect d from n to) acts)
+        ∙ undone (λ t. has opening_kinds (telling_kind t)) e.reply (telling.dial_answered n d (length log) ∷ link_tells n d (length log) to e.puts) h
     by (act.Finish link ok) acts =
-        ap (list_any (λ t. has opening_kinds (kind t))) (tells_act (told log) log e (act.Finish link ok) acts) ∙ undone (λ t. has opening_kinds (kind t)) e.reply (telling.exchange_ended link ∷ []) h
+        ap (list_any (λ t. has opening_kinds (telling_kind t))) (tells_act (told log) log e (act.Finish link ok) acts) ∙ undone (λ t. has opening_kinds (telling_kind t)) e.reply (telling.exchange_ended link ∷ []) h
     by (act.Cut link) acts =
-        ap (list_any (λ t. has opening_kinds (kind t))) (tells_act (told log) log e (act.Cut link) acts) ∙ undone (λ t. has opening_kinds (kind t)) e.reply (telling.link_cut link ∷ []) h
+        ap (list_any (λ t. has opening_kinds (telling_kind t))) (tells_act (told log) log e (act.Cut link) acts) ∙ undone (λ t. has opening_kinds (telling_kind t)) e.reply (telling.link_cut link ∷ []) h
     by a acts = openings_unmoved log e (ap (λ b. are_apart (kinds_of b) opening_kinds) acts)
 
 -- or by its puts: a dial that was answered, but not with a link
 pub openings_linkless : (log : List Entry) (e : Entry) (d n to : ℕ) (from : _) (one : Queue × Item) → e.event.act ≡ act.Connect d from n to → e.puts ≡ one ∷ [] → OpensNone log e
 openings_linkless log e d n to from one acts puts =
-    ap (list_any (λ t. has opening_kinds (kind t))) (tells_act (told log) log e (act.Connect d from n to) acts)
-    ∙ (ap (λ p. list_any (λ t. has opening_kinds (kind t)) (done_tells e.reply (telling.dial_answered n d (length log) ∷ link_tells n d (length log) to p))) puts ∙ lone e.reply)
+    ap (list_any (λ t. has opening_kinds (telling_kind t))) (tells_act (told log) log e (act.Connect d from n to) acts)
+    ∙ (ap (λ p. list_any (λ t. has opening_kinds (telling_kind t)) (done_tells e.reply (telling.dial_answered n d (length log) ∷ link_tells n d (length log) to p))) puts ∙ lone e.reply)
   where
-    lone : (r : Reply) → list_any (λ t. has opening_kinds (kind t)) (done_tells r (telling.dial_answered n d (length log) ∷ [])) ≡ false
+    lone : (r : Reply) → list_any (λ t. has opening_kinds (telling_kind t)) (done_tells r (telling.dial_answered n d (length log) ∷ [])) ≡ false
     lone reply.Ok = refl
     lone _ = refl
 

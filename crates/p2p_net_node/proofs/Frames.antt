@@ -16,7 +16,7 @@ use Rattle.p2p_log.specs.declared.event.Rate.{Rate}
 use Rattle.p2p_log.specs.declared.event.Act.{Act}
 use Rattle.p2p_log.specs.declared.event.Act.TheVariants as act
 use Rattle.p2p_log.specs.Lines.{live, line, stands_in}
-use Rattle.p2p_log_rules.specs.Connections.{is_done, begins, is_begun, ends_connection}
+use Rattle.p2p_log_rules.specs.Connections.{is_done, begins_connection, is_begun, ends_connection}
 use Rattle.p2p_log_rules.specs.Facts.{stops, turns, is_stopped, registers_at, with_capacity}
 use Rattle.p2p_log_rules.proofs.Channels.{is_stopped-kept}
 use Rattle.p2p_log_rules.proofs.Families.{kinds_of, are_apart}
@@ -188,7 +188,7 @@ hears_unnamed configs log ev n h late = by (steps_spawner n ev.act) refl
     e : Entry
     e = effect configs log ev
 
-    idle : (conn : ℕ) → begins n conn log e ≡ false
+    idle : (conn : ℕ) → begins_connection n conn log e ≡ false
     idle conn =
         begins_act log e n conn ev.act (effect-act configs log ev)
         ∙ ap (λ b. b && is_done e.reply)
@@ -296,11 +296,11 @@ late_answer configs log ev d past = by ev.act
     by _ = refl
 
 told_home : (n : ℕ) (q : Queue) → is_told n q ≡ true → home q ≡ at tracker n
-told_home n (queue.Update m) h = ap (at tracker) (let e : m ≡ n = grind (arith, nat_tests) in e)
+told_home n (queue.Addresses m) h = ap (at tracker) (let e : m ≡ n = grind (arith, nat_tests) in e)
 told_home n (queue.Dialer m) h = ap (at tracker) (let e : m ≡ n = grind (arith, nat_tests) in e)
 told_home n (queue.Control m c) h = ap (at tracker) (let e : m ≡ n = grind (arith, nat_tests) in e)
-told_home n (queue.Answer m e) h = ap (at tracker) (let e : m ≡ n = grind (arith, nat_tests) in e)
-told_home n (queue.Updates m e) h = ap (at tracker) (let e : m ≡ n = grind (arith, nat_tests) in e)
+told_home n (queue.PeerSet m e) h = ap (at tracker) (let e : m ≡ n = grind (arith, nat_tests) in e)
+told_home n (queue.PeerSetUpdates m e) h = ap (at tracker) (let e : m ≡ n = grind (arith, nat_tests) in e)
 told_home n (queue.Blocked m e) h = ap (at tracker) (let e : m ≡ n = grind (arith, nat_tests) in e)
 told_home n (queue.Handshake m e) h = ap (at tracker) (let e : m ≡ n = grind (arith, nat_tests) in e)
 told_home n _ h = cc
@@ -370,7 +370,7 @@ part_frame connections configs log ev n x s h late =
           (connections_of-unmade log e n (ap (steps_spawner n) (effect-act configs log ev) ∙ spawns_none log n ev.act h) conn);
       begins = begins_unsent log e n ev.act (effect-act configs log ev) (λ conn. sends_none log n conn ev.act h);
       receives = receives_unnamed configs log e n ev.act (effect-act configs log ev) h (λ conn. line-unnamed configs log ev (queue.Held n conn) h);
-      lines = λ conn. line-unnamed configs log ev (queue.Ready n conn) h;
+      lines = λ conn. line-unnamed configs log ev (queue.RouterAnswer n conn) h;
     })
 part_frame tracker configs log ev n x s h late =
     let e = effect configs log ev in

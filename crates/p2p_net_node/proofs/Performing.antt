@@ -26,7 +26,7 @@ use Rattle.p2p_log_rules.proofs.Dialing.{dials_of-still}
 use Rattle.p2p_log_rules.proofs.Dropping.{all_of, drops_none, drops_of-send, drops_of-receive}
 use Rattle.p2p_net_gates.proofs.DialerChanges.{dialer_frame}
 use Rattle.p2p_net_gates.proofs.ListenerChanges.{listener_frame}
-use Rattle.p2p_log_rules.specs.Connections.{half_at, is_done, begins, is_end, ends_connection}
+use Rattle.p2p_log_rules.specs.Connections.{half_at, is_done, begins_connection, is_end, ends_connection}
 use Rattle.p2p_log_rules.specs.Dropping.{half_end}
 use Rattle.p2p_log_rules.specs.Facts.{stops, turns, registers_at, taken, item_named, with_named, is_stopped}
 use Rattle.p2p_log_rules.proofs.Spawning.{connections_of-untaken}
@@ -130,7 +130,7 @@ quiet_begins n conn (act.SendStep d m) reply.Ok h = cc
 quiet_begins n conn (act.SendStep d m) _ h = and_false ((m == n) && (d == conn))
 quiet_begins n conn _ r h = refl
 
-still_begins : (log : List Entry) (e : Entry) (n conn : ℕ) (a : Act) (rep : Reply) → e.event.act ≡ a → e.reply ≡ rep → is_quiet a rep ≡ true → begins n conn log e ≡ false
+still_begins : (log : List Entry) (e : Entry) (n conn : ℕ) (a : Act) (rep : Reply) → e.event.act ≡ a → e.reply ≡ rep → is_quiet a rep ≡ true → begins_connection n conn log e ≡ false
 still_begins log e n conn a rep is told q =
     begins_act log e n conn a is ∙ (ap (λ r. steps_sender n conn a && is_done r) told ∙ quiet_begins n conn a rep q)
 
@@ -195,8 +195,8 @@ handshakes_still log e n a rep is told q = by (handshakes_now log e n)
   where
     by : (handshakes_of (log ++ e ∷ []) n ≡ handshakes_of log n) ⊎ (Begins log e n ⊎ (Ends log e n ⊎ Stops log e n)) → handshakes_of (log ++ e ∷ []) n ≡ handshakes_of log n
     by (inl same) = same
-    by (inr (inl begins)) =
-        let quiet : false ≡ true = sym (ap (λ b. is_quiet b rep) (sym is ∙ begins.acts) ∙ ap (is_quiet (act.Listener n)) (sym told ∙ begins.replied)) ∙ q in cc
+    by (inr (inl begins_connection)) =
+        let quiet : false ≡ true = sym (ap (λ b. is_quiet b rep) (sym is ∙ begins_connection.acts) ∙ ap (is_quiet (act.Listener n)) (sym told ∙ begins_connection.replied)) ∙ q in cc
     by (inr (inr (inr stops))) = let quiet : false ≡ true = sym (ap (λ b. is_quiet b rep) (sym is ∙ stops.stop.acts)) ∙ q in cc
     by (inr (inr (inl ends))) =
         let goes_on : ends_handshake rep (taken log e) ≡ false = quiet_shakes ends.name n rep (taken log e) (sym (ap (λ b. is_quiet b rep) (sym is ∙ ends.acts)) ∙ q) in
@@ -296,7 +296,7 @@ part_still connections configs log e n x a rep s is q h =
       spawns = λ conn. live_connection-kept log e n conn (still_ends log e n conn a rep is h.reply q) (connections_of-untaken log e n (taken-none log e h.takes) conn);
       begins = λ conn. still_begins log e n conn a rep is h.reply q;
       receives = receives_nothing configs log e n (taken-none log e h.takes) (λ conn. line-still log e rep (queue.Held n conn) h);
-      lines = λ conn. line-still log e rep (queue.Ready n conn) h;
+      lines = λ conn. line-still log e rep (queue.RouterAnswer n conn) h;
     })
 part_still tracker configs log e n x a rep s is q h =
     tracker_frame configs log e n x.tracker s

@@ -33,7 +33,7 @@ use Rattle.p2p_net_queues.specs.Tables as table
 use Rattle.p2p_net_links.specs.Stands.{LinksStand}
 use Rattle.p2p_net_node.specs.Places.{asked_node, or_first, node_asked, node_checking, linked_by, nodes_linked, node_of, other_of}
 use Rattle.p2p_net_node.proofs.LinkedNodes.{opening_made}
-use Rattle.p2p_net_node.specs.Ready.{is_started, may_register, names_spawner, checks, asks_set, subscribes, may_ask, may_at, may_act, IsReady, MayPerform, names_dialer, names_listener, is_link, links_attempt}
+use Rattle.p2p_net_node.specs.Ready.{is_node_up, may_register, names_spawner, checks, asks_set, subscribes, may_ask, may_at, may_act, IsReady, MayPerform, names_dialer, names_listener, is_link, links_attempt}
 use Rattle.p2p_net_node.specs.Meetings.{meeting_of, MeetsThere}
 use Rattle.p2p_net_node.specs.Stands.{RouterLives, OwnStands, NodeStands, WorldStands}
 use Rattle.p2p_net_node.specs.declared.meeting.Ends.{Ends}
@@ -56,18 +56,18 @@ not_up log n over = by (is_up log n) refl
     by true up = absurd (false≢true (sym (up_lasts log n up) ∙ over))
     by false is = is
 
-pub started_is : (configs : List Config) (log : List Entry) (n : ℕ) (x : Node) → NodeStands configs log n x → is_started x ≡ is_up log n
+pub started_is : (configs : List Config) (log : List Entry) (n : ℕ) (x : Node) → NodeStands configs log n x → is_node_up x ≡ is_up log n
 started_is configs log n x s = by (is_stopped log n) refl
   where
     rout : RouterLives configs log n x.router
     rout = s.each place.router
 
-    by : (b : Bool) → is_stopped log n ≡ b → is_started x ≡ is_up log n
+    by : (b : Bool) → is_stopped log n ≡ b → is_node_up x ≡ is_up log n
     by false lasts = (rout.runs lasts).stands.bound ∙ ap (is_up log) rout.number
     by true over = (rout.rests over).unbound ∙ sym (not_up log n over)
 
 -- one that has started has not stopped
-pub lasts_started : (configs : List Config) (log : List Entry) (n : ℕ) (x : Node) → NodeStands configs log n x → is_started x ≡ true → is_stopped log n ≡ false
+pub lasts_started : (configs : List Config) (log : List Entry) (n : ℕ) (x : Node) → NodeStands configs log n x → is_node_up x ≡ true → is_stopped log n ≡ false
 lasts_started configs log n x s started = up_lasts log n (sym (started_is configs log n x s) ∙ started)
 
 size_is : (configs : List Config) (n : ℕ) (x : Node) → OwnStands configs n x → x.config.mailbox_size ≡ mailbox_size_at configs n

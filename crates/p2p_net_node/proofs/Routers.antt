@@ -13,7 +13,7 @@ use Rattle.p2p_log.specs.declared.config.Config.{Config}
 use Rattle.p2p_log.specs.declared.entry.Entry.{Entry}
 use Rattle.p2p_log.specs.declared.event.Act.{Act}
 use Rattle.p2p_log.specs.declared.event.Act.TheVariants as act
-use Rattle.p2p_log_rules.specs.Connections.{is_done, begins, is_begun, ends_connection, is_ended, live_connection}
+use Rattle.p2p_log_rules.specs.Connections.{is_done, begins_connection, is_begun, ends_connection, is_ended, live_connection}
 use Rattle.p2p_log_rules.specs.Facts.{is_up, taken, with_begun}
 use Rattle.p2p_log_rules.specs.Spawning.{Spawned, spawned_of, connections_of}
 use Rattle.p2p_log_rules.proofs.Connections.{may_end, steps_sender, begins_act, is_begun-append, is_ended-append, live_connection-kept, ends_none-act}
@@ -38,7 +38,7 @@ HearsTheSame log e n = (conn : ℕ) → key_heard (is_begun (log ++ e ∷ []) n 
 pub HearsOfBegun-more : (log : List Entry) (e : Entry) (n : ℕ) (peers : BTreeMap ℕ Key) → HearsTheSame log e n → HearsOfBegun log n peers → HearsOfBegun (log ++ e ∷ []) n peers
 HearsOfBegun-more log e n peers same h conn = h conn ∙ sym (same conn)
 
-begun_kept : (log : List Entry) (e : Entry) (n conn : ℕ) → begins n conn log e ≡ false → is_begun (log ++ e ∷ []) n conn ≡ is_begun log n conn
+begun_kept : (log : List Entry) (e : Entry) (n conn : ℕ) → begins_connection n conn log e ≡ false → is_begun (log ++ e ∷ []) n conn ≡ is_begun log n conn
 begun_kept log e n conn idle = is_begun-append log e n conn ∙ (ap (λ b. is_begun log n conn || b) idle ∙ or_false (is_begun log n conn))
 
 -- an entry that ends and makes no connection, after which those have begun that had before
@@ -49,19 +49,19 @@ hears_same log e n begun lives made conn =
     ∙ ap (key_heard (is_begun log n conn)) (live_connection-kept log e n conn (lives conn) (made conn))
 
 -- one that begins, ends and makes none
-pub hears_kept : (log : List Entry) (e : Entry) (n : ℕ) → ((conn : ℕ) → begins n conn log e ≡ false) → ((conn : ℕ) → ends_connection n conn log e ≡ false)
+pub hears_kept : (log : List Entry) (e : Entry) (n : ℕ) → ((conn : ℕ) → begins_connection n conn log e ≡ false) → ((conn : ℕ) → ends_connection n conn log e ≡ false)
     → ((conn : ℕ) → connections_of (log ++ e ∷ []) n conn ≡ connections_of log n conn) → HearsTheSame log e n
 hears_kept log e n idle = hears_same log e n (λ conn. begun_kept log e n conn (idle conn))
 
 -- or one of a connection that has begun before
-pub hears_again : (log : List Entry) (e : Entry) (n conn : ℕ) → is_begun log n conn ≡ true → ((c : ℕ) → (c == conn) ≡ false → begins n c log e ≡ false) → ((c : ℕ) → ends_connection n c log e ≡ false)
+pub hears_again : (log : List Entry) (e : Entry) (n conn : ℕ) → is_begun log n conn ≡ true → ((c : ℕ) → (c == conn) ≡ false → begins_connection n c log e ≡ false) → ((c : ℕ) → ends_connection n c log e ≡ false)
     → ((c : ℕ) → connections_of (log ++ e ∷ []) n c ≡ connections_of log n c) → HearsTheSame log e n
 hears_again log e n conn begun others = hears_same log e n (λ c. by c (c == conn) refl)
   where
     by : (c : ℕ) (b : Bool) → (c == conn) ≡ b → is_begun (log ++ e ∷ []) n c ≡ is_begun log n c
     by c true same =
         let before : is_begun log n c ≡ true = ap (is_begun log n) (eqb-true c conn same) ∙ begun in
-        is_begun-append log e n c ∙ (ap (λ b. b || begins n c log e) before ∙ sym before)
+        is_begun-append log e n c ∙ (ap (λ b. b || begins_connection n c log e) before ∙ sym before)
     by c false other = begun_kept log e n c (others c other)
 
 -- by its act: whether that is no step of a half, and none of a spawner, and stops no node
@@ -100,7 +100,7 @@ nobody true = refl
 nobody false = refl
 
 -- an entry of a name that has not begun, which begins and ends no connection
-pub hears_late : (log : List Entry) (e : Entry) (n : ℕ) → ((conn : ℕ) → begins n conn log e ≡ false) → ((conn : ℕ) → ends_connection n conn log e ≡ false)
+pub hears_late : (log : List Entry) (e : Entry) (n : ℕ) → ((conn : ℕ) → begins_connection n conn log e ≡ false) → ((conn : ℕ) → ends_connection n conn log e ≡ false)
     → is_begun log n (length log) ≡ false → HearsTheSame log e n
 hears_late log e n idle lives fresh conn =
     ap (λ b. key_heard b (live_connection (log ++ e ∷ []) n conn)) (begun_kept log e n conn (idle conn)) ∙ by_name (conn == length log) refl
@@ -133,7 +133,7 @@ there conn k = grind (arith, nat_tests)
 -- one of its connections begins, which has not ended
 pub HearsOfBegun-told : (log : List Entry) (e : Entry) (n conn : ℕ) (c : Spawned) (old new : BTreeMap ℕ Key) → HearsOfBegun log n old
     → ((k : ℕ) → tree.get nat_cmp new k ≡ cond (is_eq (nat_cmp conn k)) (Some c.key) (tree.get nat_cmp old k))
-    → live_connection log n conn ≡ Some c → ((k : ℕ) → begins n k log e ≡ (k == conn)) → ((k : ℕ) → ends_connection n k log e ≡ false)
+    → live_connection log n conn ≡ Some c → ((k : ℕ) → begins_connection n k log e ≡ (k == conn)) → ((k : ℕ) → ends_connection n k log e ≡ false)
     → ((k : ℕ) → connections_of (log ++ e ∷ []) n k ≡ connections_of log n k) → HearsOfBegun (log ++ e ∷ []) n new
 HearsOfBegun-told log e n conn c old new h step alive starts lives made k = step k ∙ by (is_eq (nat_cmp conn k)) refl
   where
@@ -155,7 +155,7 @@ HearsOfBegun-told log e n conn c old new h step alive starts lives made k = step
 -- one of them ends, and none begins or is made
 pub HearsOfBegun-ended : (log : List Entry) (e : Entry) (n conn : ℕ) (old new : BTreeMap ℕ Key) → HearsOfBegun log n old
     → ((k : ℕ) → tree.get nat_cmp new k ≡ (if is_eq (nat_cmp conn k) then None else tree.get nat_cmp old k))
-    → ((k : ℕ) → ends_connection n k log e ≡ (k == conn)) → ((k : ℕ) → begins n k log e ≡ false)
+    → ((k : ℕ) → ends_connection n k log e ≡ (k == conn)) → ((k : ℕ) → begins_connection n k log e ≡ false)
     → ((k : ℕ) → connections_of (log ++ e ∷ []) n k ≡ connections_of log n k) → HearsOfBegun (log ++ e ∷ []) n new
 HearsOfBegun-ended log e n conn old new h step ends idle made k =
     step k ∙ (by (is_eq (nat_cmp conn k)) refl ∙ sym (ap (λ b. key_heard b (live_connection (log ++ e ∷ []) n k)) (begun_kept log e n k (idle k))))

@@ -45,7 +45,7 @@ router_queue n q h = same_queue-sym (queue.Router n) q ∙ away (λ r. same_plac
 router_kinds : (n : ℕ) (q : Queue) → same_place (at router n) (home q) ≡ false → same_place (at connections n) (home q) ≡ false → in_router n q ≡ false
 router_kinds n (queue.Router m) h k = grind (arith, nat_tests)
 router_kinds n (queue.Peers m c) h k = grind (arith, nat_tests)
-router_kinds n (queue.Ready m c) h k = grind (arith, nat_tests)
+router_kinds n (queue.RouterAnswer m c) h k = grind (arith, nat_tests)
 router_kinds n (queue.High m c) h k = grind (arith, nat_tests)
 router_kinds n (queue.Low m c) h k = grind (arith, nat_tests)
 router_kinds n _ h k = refl
@@ -62,7 +62,7 @@ link_kinds o (queue.Link e s) h = cc
 link_kinds o _ h = refl
 
 half_kinds : (o : Option Half) (n conn : ℕ) (q : Queue) → same_place (at router n) (home q) ≡ false → same_place (at connections n) (home q) ≡ false → same_place links (home q) ≡ false → in_half o n conn q ≡ false
-half_kinds o n conn (queue.Ready m c) h k l = grind (arith, nat_tests)
+half_kinds o n conn (queue.RouterAnswer m c) h k l = grind (arith, nat_tests)
 half_kinds o n conn (queue.High m c) h k l = grind (arith, nat_tests)
 half_kinds o n conn (queue.Low m c) h k l = grind (arith, nat_tests)
 half_kinds o n conn (queue.Link e s) h k l = cc
@@ -100,8 +100,8 @@ tracker_queue n q h = same_queue-sym (queue.Tracker n) q ∙ away (λ r. same_pl
 answers_queue : (n : ℕ) (q : Queue) → same_place (at tracker n) (home q) ≡ false → same_queue (queue.Dialer n) q ≡ false
 answers_queue n q h = same_queue-sym (queue.Dialer n) q ∙ away (λ r. same_place (at tracker n) (home r)) q (queue.Dialer n) h (eqb-refl n)
 
-update_queue : (n : ℕ) (q : Queue) → same_place (at tracker n) (home q) ≡ false → same_queue (queue.Update n) q ≡ false
-update_queue n q h = same_queue-sym (queue.Update n) q ∙ away (λ r. same_place (at tracker n) (home r)) q (queue.Update n) h (eqb-refl n)
+update_queue : (n : ℕ) (q : Queue) → same_place (at tracker n) (home q) ≡ false → same_queue (queue.Addresses n) q ≡ false
+update_queue n q h = same_queue-sym (queue.Addresses n) q ∙ away (λ r. same_place (at tracker n) (home r)) q (queue.Addresses n) h (eqb-refl n)
 
 handshake_queue : (n e : ℕ) (q : Queue) → same_place (at tracker n) (home q) ≡ false → same_queue (queue.Handshake n e) q ≡ false
 handshake_queue n e q h = same_queue-sym (queue.Handshake n e) q ∙ away (λ r. same_place (at tracker n) (home r)) q (queue.Handshake n e) h (eqb-refl n)
@@ -121,11 +121,11 @@ handshake_kinds n _ h = refl
 
 tracker_kinds : (n : ℕ) (q : Queue) → same_place (at tracker n) (home q) ≡ false → in_tracker n q ≡ false
 tracker_kinds n (queue.Tracker m) h = grind (arith, nat_tests)
-tracker_kinds n (queue.Update m) h = grind (arith, nat_tests)
+tracker_kinds n (queue.Addresses m) h = grind (arith, nat_tests)
 tracker_kinds n (queue.Dialer m) h = grind (arith, nat_tests)
 tracker_kinds n (queue.Control m c) h = grind (arith, nat_tests)
-tracker_kinds n (queue.Answer m e) h = grind (arith, nat_tests)
-tracker_kinds n (queue.Updates m e) h = grind (arith, nat_tests)
+tracker_kinds n (queue.PeerSet m e) h = grind (arith, nat_tests)
+tracker_kinds n (queue.PeerSetUpdates m e) h = grind (arith, nat_tests)
 tracker_kinds n (queue.Blocked m e) h = grind (arith, nat_tests)
 tracker_kinds n (queue.Handshake m e) h = grind (arith, nat_tests)
 tracker_kinds n _ h = refl
@@ -138,8 +138,8 @@ told_queue log e q h = go (slice_get log e) h
     apart n p none here = same_queue-sym p q ∙ away (λ r. same_place (at tracker n) (home r)) q p none here
 
     by : (a : Act) → same_place (at tracker (or_first (asked_node a))) (home q) ≡ false → is_told_to (Some a) e q ≡ false
-    by (act.Ask (ask.PeerSet index) n) h = apart n (queue.Answer n e) h (eqb-refl n)
-    by (act.Ask ask.Subscribe n) h = apart n (queue.Updates n e) h (eqb-refl n)
+    by (act.Ask (ask.PeerSet index) n) h = apart n (queue.PeerSet n e) h (eqb-refl n)
+    by (act.Ask ask.Subscribe n) h = apart n (queue.PeerSetUpdates n e) h (eqb-refl n)
     by (act.Ask ask.Blocked n) h = apart n (queue.Blocked n e) h (eqb-refl n)
     by _ h = refl
 
@@ -221,7 +221,7 @@ connection_kinds o n conn (queue.High m e) h = let off = h.third in grind (arith
 connection_kinds o n conn (queue.Low m e) h = let off = h.third in grind (arith, nat_tests)
 connection_kinds o n conn (queue.Held m e) h = let off = h.second in grind (arith, nat_tests)
 connection_kinds o n conn (queue.Control m e) h = let off = h.fourth in grind (arith, nat_tests)
-connection_kinds o n conn (queue.Ready m e) h = let off = h.second in grind (arith, nat_tests)
+connection_kinds o n conn (queue.RouterAnswer m e) h = let off = h.second in grind (arith, nat_tests)
 connection_kinds o n conn q h = flight_kinds (half_end o) q h.first
 
 -- a handshake and an attempt reach the links, the tracker, the spawner and the part that has them
@@ -249,7 +249,7 @@ reads-named configs log (act.Next e) q h = told_queue log e q (first_false (same
 reads-named configs log (act.Tracker n) q h = tracker_queue n q (first_false (same_place (at tracker n) (home q)) false h)
 reads-named configs log (act.Dialer n) q h = answers_queue n q (first_false (same_place (at tracker n) (home q)) (same_place (at dialer n) (home q) || false) h)
 reads-named configs log (act.Listener n) q h =
-    both_false (same_queue (queue.Update n) q) (same_queue (queue.Arrivals n) q)
+    both_false (same_queue (queue.Addresses n) q) (same_queue (queue.Arrivals n) q)
     (update_queue n q (second_of_three (same_place links (home q)) (same_place (at tracker n) (home q)) (same_place (at listener n) (home q)) h))
     (arrivals_queue n q (third_of_three (same_place links (home q)) (same_place (at tracker n) (home q)) (same_place (at listener n) (home q)) h))
 reads-named configs log (act.Handshake e n) q h = handshake_queue n e q (off_handshake log e n q h).second
@@ -328,7 +328,7 @@ stop_kinds log by_start n q h = record {
   tracker = off (queue.Tracker n) (stop_names log by_start n tracker);
   spawner = off (queue.Spawner n) (stop_names log by_start n spawner);
   arrivals = off (queue.Arrivals n) (stop_names log by_start n listener);
-  update = off (queue.Update n) (stop_names log by_start n tracker);
+  update = off (queue.Addresses n) (stop_names log by_start n tracker);
   dialer = off (queue.Dialer n) (stop_names log by_start n tracker);
   attempt = λ k. off (queue.Attempt n k) (stop_names log by_start n dialer);
   handshake = λ k. off (queue.Handshake n k) (stop_names log by_start n tracker);
@@ -336,7 +336,7 @@ stop_kinds log by_start n q h = record {
   low = λ conn. off (queue.Low n conn) (stop_names log by_start n router);
   held = λ conn. off (queue.Held n conn) (stop_names log by_start n connections);
   control = λ conn. off (queue.Control n conn) (stop_names log by_start n tracker);
-  ready = λ conn. off (queue.Ready n conn) (stop_names log by_start n connections);
+  ready = λ conn. off (queue.RouterAnswer n conn) (stop_names log by_start n connections);
   link = λ l s. off (queue.Link l s) refl;
 }
   where

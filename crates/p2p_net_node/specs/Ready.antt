@@ -23,8 +23,8 @@ use Rattle.p2p_net_node.specs.declared.node.Node.{Node}
 use Rattle.p2p_net_node.specs.declared.requested.Requested.{Requested}
 
 -- whether a node has started, and has not stopped since
-abbrev pub is_started : Node → Bool
-is_started x = is_bound x.router.messenger.binding
+abbrev pub is_node_up : Node → Bool
+is_node_up x = is_bound x.router.messenger.binding
 
 -- whether a channel may be registered, by what was requested so far
 abbrev pub may_register : Node → Requested → ℕ → Rate → Bool
@@ -108,7 +108,7 @@ IsReady (act.Start n) x =
     × ((is_quota x.config.allowed_handshake_rate_per_ip ≡ true) × (is_quota x.config.allowed_handshake_rate_per_subnet ≡ true))))
 IsReady (act.Stop by_start n) x = IsStrictlySortedBy nat_cmp (keys_of x.listening.handshakes) → length x.listening.handshakes ≤ x.listening.actor.places.held
 IsReady (act.SendStep conn n) x = 1 ≤ x.config.mailbox_size
-IsReady (act.Tracker n) x = is_started x ≡ true → (now : ℕ) → IfSome (next_message x.tracker.mailbox.desk) (λ m. MayTake key_cmp x.tracker.actor.directory m now)
+IsReady (act.Tracker n) x = is_node_up x ≡ true → (now : ℕ) → IfSome (next_message x.tracker.mailbox.desk) (λ m. MayTake key_cmp x.tracker.actor.directory m now)
 IsReady (act.Handshake e n) x = is_some (table.at x.listening.handshakes e) ≡ true → 0 < x.listening.actor.places.held
 IsReady _ x = Unit {0}
 

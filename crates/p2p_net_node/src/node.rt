@@ -10,7 +10,7 @@ ghost use Rattle.p2p_net_gates.specs.Listening.{IsNew as IsNewListening};
 ghost use Rattle.p2p_net_router.specs.Stands.{StandsFor};
 ghost use Rattle.p2p_net_connections.specs.Spawner.{no_spawning};
 ghost use Rattle.p2p_net_tracker.specs.Begins.{IsNew};
-ghost use Rattle.p2p_net_node.specs.Ready.{is_started as started_test};
+ghost use Rattle.p2p_net_node.specs.Ready.{is_node_up};
 ghost use Rattle.p2p_net_node.specs.Requested.{capacity_by};
 
 use crate::configs::retained;
@@ -115,8 +115,8 @@ impl Node {
     }
 
     /// Whether it has started, and has not stopped.
-    pub fn is_started(&self) -> bool
-        ensures { result ≡ started_test self.now }
+    pub fn is_up(&self) -> bool
+        ensures { result ≡ is_node_up self.now }
     {
         self.router.messenger.bound()
     }

@@ -6,14 +6,9 @@ use Rattle.p2p_log.specs.declared.end.End.{End}
 use Rattle.p2p_log.specs.declared.end.End.TheVariants as end
 use Rattle.p2p_log.specs.declared.end.Cause.{Cause}
 use Rattle.p2p_log.specs.declared.end.Outcome.TheVariants as outcome
-use Rattle.p2p_log.specs.declared.entry.Reply.TheVariants as reply
 use Rattle.p2p_log.specs.declared.item.Item.{Item}
 use Rattle.p2p_log.specs.Copies.{copies_from, copies_of}
 use Rattle.p2p_log.specs.Lines.{ended_item}
-
--- the row that takes the item of this name, and does no more
-abbrev pub taken_row : ℕ × ℕ → Row
-taken_row name = record { reply = reply.Ok; takes = name ∷ []; puts = []; ends = [] }
 
 -- the names of the items that a row takes or ends
 abbrev pub row_goes : Row → List (ℕ × ℕ)

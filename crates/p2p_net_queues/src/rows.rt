@@ -1,7 +1,7 @@
 //! Rows, before they move anything.
 ghost use Rattle.std.specs.Prelude.{◌≡◌, IfOk};
 ghost use Rattle.p2p_log_rules.specs.Effect.{only as only_reply};
-ghost use Rattle.p2p_net_queues.specs.Rows.{taken_row};
+ghost use Rattle.p2p_log_rules.specs.Rows.{taken_row};
 
 use p2p_base::List;
 use p2p_log::Reply;

@@ -69,7 +69,7 @@ module _ (configs : List Config) (log : List Entry) (at seed n : ℕ) (a : Act) 
     no_admission = handshakes_of-apart log e n no_admission;
     mailbox = line_left rep is (queue.Tracker n);
     dialer = line_left rep is (queue.Dialer n);
-    listener = line_left rep is (queue.Update n);
+    listener = line_left rep is (queue.Addresses n);
     handshakes = λ k. line_left rep is (queue.Handshake n k);
   }
 
@@ -181,10 +181,10 @@ tracker_answers configs log at seed n e index t u r s stopped stops asked h =
     row_is : answer_row log e ≡ answer_at log n e
     row_is = ap (answer_by log e) asked
 
-    at_is : (b : Bool) → is_some (table.at t.answered e) ≡ b → answer_at log n e ≡ cond b (only reply.Gone) (oldest_row (no_answer stopped) (line log (queue.Answer n e)))
+    at_is : (b : Bool) → is_some (table.at t.answered e) ≡ b → answer_at log n e ≡ cond b (only reply.Gone) (oldest_row (no_answer stopped) (line log (queue.PeerSet n e)))
     at_is b is =
-        ap (λ c. cond c (only reply.Gone) (oldest_row (no_answer (is_stopped log n)) (line log (queue.Answer n e)))) (sym (s.answered e here) ∙ is)
-        ∙ ap (λ c. cond b (only reply.Gone) (oldest_row (no_answer c) (line log (queue.Answer n e)))) stops
+        ap (λ c. cond c (only reply.Gone) (oldest_row (no_answer (is_stopped log n)) (line log (queue.PeerSet n e)))) (sym (s.answered e here) ∙ is)
+        ∙ ap (λ c. cond b (only reply.Gone) (oldest_row (no_answer c) (line log (queue.PeerSet n e)))) stops
 
     by_taken : (b : Bool) → is_some (table.at t.answered e) ≡ b → ReadsAnswer stopped n e t u r
         → (r ≡ answer_row log e) × TrackerStands configs (log ++ entry_of (record { at = at; seed = seed; act = act.Answer e }) r ∷ []) n u
@@ -195,7 +195,7 @@ tracker_answers configs log at seed n e index t u r s stopped stops asked h =
               (λ p own. ap (λ (k : Tracker). held k.told p) only_gone.1 ∙ s.told p own),
         )
     by_taken false is reads =
-        let q = queue.Answer n e in
+        let q = queue.PeerSet n e in
         let taking : ReadsAnswerBy false stopped n e t u r = subst (λ b. ReadsAnswerBy b stopped n e t u r) is reads in
         let first : r ≡ oldest_row (no_answer stopped) (line log q) = taking.0 ∙ first_row (no_answer stopped) (held t.told q) (line log q) (s.told q (eq-eqb n n refl)) in
         let entry = entry_of (record { at = at; seed = seed; act = act.Answer e }) r in (
@@ -231,7 +231,7 @@ module _ (configs : List Config) (log : List Entry) (at seed n e : ℕ) (t u : T
       → (r ≡ next_row log e) × TrackerStands configs (log ++ entry_of (record { at = at; seed = seed; act = act.Next e }) r ∷ []) n u
   tracker_updates asked h =
       let kind : table.at t.questions e ≡ Some question.Updates = s.asked e ∙ (asks-asked log n e (act.Ask ask.Subscribe n) asked ∙ ap (λ b. cond b (Some question.Updates) None) (eq-eqb n n refl)) in
-      let done = reads_on (queue.Updates n e) (record { own = eq-eqb n n refl; no_dialer = refl; no_listener = refl; no_handshake = λ k. refl }) (subst (λ o. ContinuesBy o stopped n e t u r) kind h) in
+      let done = reads_on (queue.PeerSetUpdates n e) (record { own = eq-eqb n n refl; no_dialer = refl; no_listener = refl; no_handshake = λ k. refl }) (subst (λ o. ContinuesBy o stopped n e t u r) kind h) in
       (done.0 ∙ sym (ap (next_by log e) asked), done.1)
 
   pub tracker_sets : asked_by log e ≡ Some (act.Ask ask.Blocked n) → Continues stopped n e t u r

@@ -35,7 +35,7 @@ use Rattle.p2p_log.specs.Lines.{name_of, live_from, line}
 use Rattle.p2p_log_rules.specs.Facts.{state_from}
 use Rattle.p2p_log_rules.specs.Handshakes.{is_handshaking}
 use Rattle.p2p_log_rules.specs.Told.{told}
-use Rattle.p2p_log_rules.specs.Tracking.{key_cmp, rules_of, no_rules, rules_at, calls_of, update_subscriptions, blocked_subscriptions}
+use Rattle.p2p_log_rules.specs.Tracking.{key_cmp, tracker_rules_of, no_rules, rules_at, calls_of, update_subscriptions, blocked_subscriptions}
 use Rattle.p2p_log_rules.specs.TrackerRows.{was_answered}
 use Rattle.p2p_log_rules.proofs.Handshakes.{handshakes_of-none}
 use Rattle.p2p_net_queues.specs.Board.{held}
@@ -79,7 +79,7 @@ follows_none d s = record { stands = s; exactly = λ q. refl; held = λ q h. cc;
 
 pub tracker_new : (configs : List Config) (n : ℕ) (c : Config) (t : Tracker) → slice_get configs n ≡ Some c → IsNew c t → TrackerStands configs [] n t
 tracker_new configs n c t is h =
-    let there : rules_at configs n ≡ rules_of c = ap (λ (o : Option Config). elim o [ None ↦ no_rules | Some d ↦ rules_of d ]) is in
+    let there : rules_at configs n ≡ tracker_rules_of c = ap (λ (o : Option Config). elim o [ None ↦ no_rules | Some d ↦ tracker_rules_of d ]) is in
     record {
       follows = subst (Follows key_cmp t.actor.directory t.actor.controls) (sym (no_calls configs n))
           (subst (λ l. Follows key_cmp t.actor.directory l []) (sym (ap (λ (a : Tracking Key). a.controls) h.actor)) (follows_none t.actor.directory h.stands));
@@ -106,7 +106,7 @@ tracker_new configs n c t is h =
       ended = λ conn. ap (λ l. is_noted l conn) h.ended ∙ sym (is_ended-none n conn);
       dialer = subst (λ l. Match (λ x a. IsAnswer x.item a) l t.mailbox.dialer) (sym (no_line (queue.Dialer n)))
           (subst (Match (λ (x : Envelope) a. IsAnswer x.item a) []) (sym (ap (λ (m : Mailbox Key). m.dialer) h.mailbox)) tt);
-      heard = subst (λ o. HeardStands o (line [] (queue.Update n))) (sym (ap (λ (m : Mailbox Key). m.heard) h.mailbox)) (no_line (queue.Update n));
+      heard = subst (λ o. HeardStands o (line [] (queue.Addresses n))) (sym (ap (λ (m : Mailbox Key). m.heard) h.mailbox)) (no_line (queue.Addresses n));
       handshakes = λ k.
           subst (λ (m : Mailbox Key). HandshakeStands (line_of m.handshakes k) (is_handshaking [] n k) (line [] (queue.Handshake n k))) (sym h.mailbox)
           (ap (list_any (λ j. k == j)) (handshakes_of-none n), no_line (queue.Handshake n k));

@@ -124,7 +124,7 @@ tracker_frame configs log e n t s q = record {
   fresh = fresh-longer log e t.answered s.fresh q.no_late_answer;
   ended = noted_stay log e n t.ended s.ended q.no_end;
   dialer = subst (λ l. Match (λ x a. IsAnswer x.item a) l t.mailbox.dialer) (sym (q.told (queue.Dialer n) (eq-eqb n n refl))) s.dialer;
-  heard = subst (HeardStands t.mailbox.heard) (sym (q.told (queue.Update n) (eq-eqb n n refl))) s.heard;
+  heard = subst (HeardStands t.mailbox.heard) (sym (q.told (queue.Addresses n) (eq-eqb n n refl))) s.heard;
   handshakes = handshaking-kept log e n t.mailbox.handshakes q.handshakes (λ k. q.told (queue.Handshake n k) (eq-eqb n n refl)) s.handshakes;
   distinct = s.distinct;
   told = λ p own. s.told p own ∙ sym (q.told p own);
@@ -134,11 +134,11 @@ tracker_frame configs log e n t s q = record {
 
 -- its mailbox is no queue in which it tells something
 pub told_apart : (n m : ℕ) (q : Queue) → is_told n q ≡ true → same_queue q (queue.Tracker m) ≡ false
-told_apart n m (queue.Update k) h = refl
+told_apart n m (queue.Addresses k) h = refl
 told_apart n m (queue.Dialer k) h = refl
 told_apart n m (queue.Control k e) h = refl
-told_apart n m (queue.Answer k e) h = refl
-told_apart n m (queue.Updates k e) h = refl
+told_apart n m (queue.PeerSet k e) h = refl
+told_apart n m (queue.PeerSetUpdates k e) h = refl
 told_apart n m (queue.Blocked k e) h = refl
 told_apart n m (queue.Handshake k e) h = refl
 told_apart n m _ h = cc
@@ -214,7 +214,7 @@ tracker_asked configs log e n t desk tickets questions_now m s q more put says q
       fresh = fresh-longer log e t.answered s.fresh (λ d past. q.no_answer d);
       ended = noted_stay log e n t.ended s.ended q.no_end;
       dialer = subst (λ l. Match (λ y a. IsAnswer y.item a) l t.mailbox.dialer) (sym (same (queue.Dialer n) (eq-eqb n n refl))) s.dialer;
-      heard = subst (HeardStands t.mailbox.heard) (sym (same (queue.Update n) (eq-eqb n n refl))) s.heard;
+      heard = subst (HeardStands t.mailbox.heard) (sym (same (queue.Addresses n) (eq-eqb n n refl))) s.heard;
       handshakes = handshaking-kept log e n t.mailbox.handshakes q.no_admission (λ k. same (queue.Handshake n k) (eq-eqb n n refl)) s.handshakes;
       distinct = s.distinct;
       told = λ p own. s.told p own ∙ sym (same p own);
@@ -229,7 +229,7 @@ pub record LeavesMailbox (log : List Entry) (e : Entry) (n : ℕ) : Type 0 where
   pub no_admission : handshakes_of (log ++ e ∷ []) n ≡ handshakes_of log n
   pub mailbox : line (log ++ e ∷ []) (queue.Tracker n) ≡ line log (queue.Tracker n)
   pub dialer : line (log ++ e ∷ []) (queue.Dialer n) ≡ line log (queue.Dialer n)
-  pub listener : line (log ++ e ∷ []) (queue.Update n) ≡ line log (queue.Update n)
+  pub listener : line (log ++ e ∷ []) (queue.Addresses n) ≡ line log (queue.Addresses n)
   pub handshakes : (k : ℕ) → line (log ++ e ∷ []) (queue.Handshake n k) ≡ line log (queue.Handshake n k)
 
 -- with what was asked, what was answered and what is told after it
@@ -276,7 +276,7 @@ tracker_kept configs log e n t board questions_now answered s q asked noted fres
 pub record TellsAsker (n : ℕ) (q : Queue) : Type 0 where
   pub own : is_told n q ≡ true
   pub no_dialer : same_queue q (queue.Dialer n) ≡ false
-  pub no_listener : same_queue q (queue.Update n) ≡ false
+  pub no_listener : same_queue q (queue.Addresses n) ≡ false
   pub no_handshake : (k : ℕ) → same_queue q (queue.Handshake n k) ≡ false
 
 -- the entry takes the first item of a queue in which it told one who asked by an oracle, and does no more; these were answered then
@@ -295,7 +295,7 @@ tracker_read configs log e n t u q x rest answered s no_step no_question no_end 
       no_admission = no_admission;
       mailbox = other (queue.Tracker n) (told_apart n n q asker.own);
       dialer = other (queue.Dialer n) asker.no_dialer;
-      listener = other (queue.Update n) asker.no_listener;
+      listener = other (queue.Addresses n) asker.no_listener;
       handshakes = λ k. other (queue.Handshake n k) (asker.no_handshake k);
     })
     (λ d. s.asked d ∙ sym (asks_at-kept log e n d no_question)) (λ d is. noted d (sym (asks_at-kept log e n d no_question) ∙ is)) fresh

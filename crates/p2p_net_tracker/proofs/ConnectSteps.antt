@@ -43,11 +43,11 @@ pub record Connects (log : List Entry) (e : Entry) (n conn : ℕ) (peer : Key) :
 
 -- the router's queue is none in which the tracker tells something
 pub router_apart : (n m : ℕ) (q : Queue) → is_told n q ≡ true → same_queue q (queue.Router m) ≡ false
-router_apart n m (queue.Update k) h = refl
+router_apart n m (queue.Addresses k) h = refl
 router_apart n m (queue.Dialer k) h = refl
 router_apart n m (queue.Control k e) h = refl
-router_apart n m (queue.Answer k e) h = refl
-router_apart n m (queue.Updates k e) h = refl
+router_apart n m (queue.PeerSet k e) h = refl
+router_apart n m (queue.PeerSetUpdates k e) h = refl
 router_apart n m (queue.Blocked k e) h = refl
 router_apart n m (queue.Handshake k e) h = refl
 router_apart n m _ h = cc
@@ -73,7 +73,7 @@ tracker_connected configs log e n conn peer t s q =
       given = (tt, tt);
       waits = line-kept log e (queue.Tracker n) none ∙ ap (λ l. line log (queue.Tracker n) ++ l) waits;
       dialer = subst (λ l. Match (λ y a. IsAnswer y.item a) l t.mailbox.dialer) (sym (same (queue.Dialer n) (eq-eqb n n refl))) s.dialer;
-      heard = subst (HeardStands t.mailbox.heard) (sym (same (queue.Update n) (eq-eqb n n refl))) s.heard;
+      heard = subst (HeardStands t.mailbox.heard) (sym (same (queue.Addresses n) (eq-eqb n n refl))) s.heard;
       handshakes = handshaking-kept log e n t.mailbox.handshakes q.no_admission (λ k. same (queue.Handshake n k) (eq-eqb n n refl)) s.handshakes;
       distinct = s.distinct;
       told = λ p own. s.told p own ∙ sym (same p own);

@@ -111,7 +111,7 @@ tracker_dialed configs log e n t u took xs ms s q =
           (subst (Match (λ (x : Envelope) a. IsAnswer x.item a) (cond (is_taken_of took n (queue.Dialer n)) (drop 1 (line log (queue.Dialer n))) (line log (queue.Dialer n)))) (sym q.answered)
           (subst (λ b. Match (λ (x : Envelope) a. IsAnswer x.item a) (cond b (drop 1 (line log (queue.Dialer n))) (line log (queue.Dialer n))) (cond took (drop 1 t.mailbox.dialer) t.mailbox.dialer))
           (sym (and_true took (same_queue (queue.Dialer n) (queue.Dialer n)) (same_queue-refl (queue.Dialer n)))) (by_taken took)));
-      heard = subst (HeardStands t.mailbox.heard) (sym (other (queue.Update n) (eq-eqb n n refl) refl)) s.heard;
+      heard = subst (HeardStands t.mailbox.heard) (sym (other (queue.Addresses n) (eq-eqb n n refl) refl)) s.heard;
       handshakes = handshaking-kept log e n t.mailbox.handshakes q.no_admission (λ k. other (queue.Handshake n k) (eq-eqb n n refl) refl) s.handshakes;
       distinct = s.distinct;
       told = λ p own. q.told p ∙ (by_place (drop 1) (is_taken_of took n p) (held t.told p) (line log p) (s.told p own) ∙ sym (q.lines p own));

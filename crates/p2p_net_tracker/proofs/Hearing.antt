@@ -299,9 +299,9 @@ module _ (n : ℕ) (t : Tickets) (j : ℕ) where
 
   -- how often it overwrites what the listener was told
   abbrev overwrites : List (Put Key) → ℕ
-  overwrites ps = count_by (is_same (queue.Update n)) (rings_of (named_puts n t ps))
+  overwrites ps = count_by (is_same (queue.Addresses n)) (rings_of (named_puts n t ps))
 
-  aside_rings : (ps : List (Put Key)) → Each IsAside ps → Each (λ p. is_same (queue.Update n) p ≡ false) (rings_of (named_puts n t ps))
+  aside_rings : (ps : List (Put Key)) → Each IsAside ps → Each (λ p. is_same (queue.Addresses n) p ≡ false) (rings_of (named_puts n t ps))
   aside_rings [] h = tt
   aside_rings (put.Listenable addresses dropped ∷ ps) h = absurd h.0
   aside_rings (put.Acceptable handshake acceptable ∷ ps) h = absurd h.0
@@ -309,7 +309,7 @@ module _ (n : ℕ) (t : Tickets) (j : ℕ) where
   aside_rings (put.Blocked ticket keys dropped ∷ ps) h = (refl, aside_rings ps h.1)
   aside_rings (_ ∷ ps) h = aside_rings ps h.1
 
-  aside_added : (p : ℕ) (ps : List (Put Key)) → Each IsAside ps → added (queue.Update n) p ps ≡ []
+  aside_added : (p : ℕ) (ps : List (Put Key)) → Each IsAside ps → added (queue.Addresses n) p ps ≡ []
   aside_added p [] h = refl
   aside_added p (put.Listenable addresses dropped ∷ ps) h = absurd h.0
   aside_added p (put.Acceptable handshake acceptable ∷ ps) h = absurd h.0
@@ -332,10 +332,10 @@ module _ (n : ℕ) (t : Tickets) (j : ℕ) where
   once_to_handshake k p (_ ∷ ps) h = once_to_handshake k (p + 1) ps h
 
   once_heard : (p : ℕ) (ps : List (Put Key)) (m : Mailbox Key) (l : List Envelope) → HearsOnce ps → HeardStands m.heard l
-      → HeardStands (after_puts ps m).heard (drop (overwrites ps) l ++ added (queue.Update n) p ps)
+      → HeardStands (after_puts ps m).heard (drop (overwrites ps) l ++ added (queue.Addresses n) p ps)
   once_heard p [] m l h s = subst (HeardStands m.heard) (sym (append-nil l)) s
   once_heard p (put.Listenable addresses dropped ∷ ps) m l h s =
-      let q = queue.Update n in
+      let q = queue.Addresses n in
       let x : Envelope = record { entry = j; place = p; queue = q; item = item.Addresses addresses } in
       let here : is_same q q ≡ true = same_queue-refl q in
       let once : overwrites (put.Listenable addresses dropped ∷ ps) ≡ 1 =
@@ -355,15 +355,15 @@ module _ (n : ℕ) (t : Tickets) (j : ℕ) where
   once_heard p (put.Dial grant ∷ ps) m l h s = once_heard (p + 1) ps (after_put (put.Dial grant) m) l h.1 s
   once_heard p (put.Blocked ticket keys dropped ∷ ps) m l h s =
       let d = put.Blocked ticket keys dropped in
-      let same : overwrites (d ∷ ps) ≡ overwrites ps = count-first (queue.Update n) (queue.Blocked n (event_at t.blocked ticket)) (rings_of (named_puts n t ps)) ∙ zero_more (overwrites ps) in
-      subst (λ c. HeardStands (after_puts ps (after_put d m)).heard (drop c l ++ added (queue.Update n) (p + 1) ps)) (sym same) (once_heard (p + 1) ps (after_put d m) l h s)
+      let same : overwrites (d ∷ ps) ≡ overwrites ps = count-first (queue.Addresses n) (queue.Blocked n (event_at t.blocked ticket)) (rings_of (named_puts n t ps)) ∙ zero_more (overwrites ps) in
+      subst (λ c. HeardStands (after_puts ps (after_put d m)).heard (drop c l ++ added (queue.Addresses n) (p + 1) ps)) (sym same) (once_heard (p + 1) ps (after_put d m) l h s)
     where
       zero_more : (c : ℕ) → 0 + c ≡ c
       zero_more c = omega arith
   once_heard p (d ∷ ps) m l h s = once_heard (p + 1) ps (after_put d m) l h s
 
   abbrev Heard : Mailbox Key → List Envelope → List (Put Key) → Type 0
-  Heard m l ps = HeardStands (after_puts ps m).heard (drop (overwrites ps) l ++ added (queue.Update n) 0 ps)
+  Heard m l ps = HeardStands (after_puts ps m).heard (drop (overwrites ps) l ++ added (queue.Addresses n) 0 ps)
 
   -- what the listener is told
   pub heard-after : (ps : List (Put Key)) (m : Mailbox Key) (l : List Envelope) → TellsFew (runs_in m) ps → HeardStands m.heard l → Heard m l ps

@@ -48,8 +48,8 @@ pub record UpdateMoves (log : List Entry) (e : Entry) (n : ℕ) (t u : Tracker) 
   pub no_admission : handshakes_of (log ++ e ∷ []) n ≡ handshakes_of log n
   pub rest : u ≡ record t { mailbox = record t.mailbox { heard = None }; told = u.told }
   pub mailbox : line (log ++ e ∷ []) (queue.Tracker n) ≡ line log (queue.Tracker n)
-  pub lines : (p : Queue) → is_told n p ≡ true → line (log ++ e ∷ []) p ≡ cond (same_queue (queue.Update n) p) (drop 1 (line log p)) (line log p)
-  pub told : (p : Queue) → held u.told p ≡ (if same_queue (queue.Update n) p then drop 1 (held t.told p) else held t.told p)
+  pub lines : (p : Queue) → is_told n p ≡ true → line (log ++ e ∷ []) p ≡ cond (same_queue (queue.Addresses n) p) (drop 1 (line log p)) (line log p)
+  pub told : (p : Queue) → held u.told p ≡ (if same_queue (queue.Addresses n) p then drop 1 (held t.told p) else held t.told p)
 
 pub tracker_updated : (configs : List Config) (log : List Entry) (e : Entry) (n : ℕ) (t u : Tracker) → TrackerStands configs log n t → UpdateMoves log e n t u → TrackerStands configs (log ++ e ∷ []) n u
 tracker_updated configs log e n t u s q =
@@ -71,11 +71,11 @@ tracker_updated configs log e n t u s q =
       waits = q.mailbox ∙ sym (append-nil (line log (queue.Tracker n)));
       dialer = subst (λ l. Match (λ x a. IsAnswer x.item a) l t.mailbox.dialer) (sym (q.lines (queue.Dialer n) (eq-eqb n n refl))) s.dialer;
       heard =
-          q.lines (queue.Update n) (eq-eqb n n refl)
-          ∙ (ap (λ b. cond b (drop 1 (line log (queue.Update n))) (line log (queue.Update n))) (same_queue-refl (queue.Update n)) ∙ one_waits t.mailbox.heard (line log (queue.Update n)) s.heard);
+          q.lines (queue.Addresses n) (eq-eqb n n refl)
+          ∙ (ap (λ b. cond b (drop 1 (line log (queue.Addresses n))) (line log (queue.Addresses n))) (same_queue-refl (queue.Addresses n)) ∙ one_waits t.mailbox.heard (line log (queue.Addresses n)) s.heard);
       handshakes = handshaking-kept log e n t.mailbox.handshakes q.no_admission (λ k. q.lines (queue.Handshake n k) (eq-eqb n n refl)) s.handshakes;
       distinct = s.distinct;
-      told = λ p own. q.told p ∙ (by_place (drop 1) (same_queue (queue.Update n) p) (held t.told p) (line log p) (s.told p own) ∙ sym (q.lines p own));
+      told = λ p own. q.told p ∙ (by_place (drop 1) (same_queue (queue.Addresses n) p) (held t.told p) (line log p) (s.told p own) ∙ sym (q.lines p own));
     }))
 
 -- ---- it asks for a handshake
@@ -144,7 +144,7 @@ tracker_asked configs log e n t u key source s q =
       given = (tt, tt);
       waits = q.waits;
       dialer = subst (λ l. Match (λ y a. IsAnswer y.item a) l t.mailbox.dialer) (sym (q.lines (queue.Dialer n) (eq-eqb n n refl))) s.dialer;
-      heard = subst (HeardStands t.mailbox.heard) (sym (q.lines (queue.Update n) (eq-eqb n n refl))) s.heard;
+      heard = subst (HeardStands t.mailbox.heard) (sym (q.lines (queue.Addresses n) (eq-eqb n n refl))) s.heard;
       handshakes = told_now;
       distinct = distinct-begun t.mailbox.handshakes (length log) none s.distinct;
       told = λ p own. s.told p own ∙ sym (q.lines p own);

@@ -54,7 +54,7 @@ pub record TrackerMoves (log : List Entry) (e : Entry) (n : ℕ) (t u : Tracker)
   pub waits : line (log ++ e ∷ []) (queue.Tracker n) ≡ line log (queue.Tracker n) ++ xs
   -- what it told
   pub dialer : Match (λ x a. IsAnswer x.item a) (line (log ++ e ∷ []) (queue.Dialer n)) u.mailbox.dialer
-  pub heard : HeardStands u.mailbox.heard (line (log ++ e ∷ []) (queue.Update n))
+  pub heard : HeardStands u.mailbox.heard (line (log ++ e ∷ []) (queue.Addresses n))
   pub handshakes : (k : ℕ) → HandshakeStands (line_of u.mailbox.handshakes k) (is_handshaking (log ++ e ∷ []) n k) (line (log ++ e ∷ []) (queue.Handshake n k))
   pub distinct : AreDistinct u.mailbox.handshakes
   pub told : (p : Queue) → is_told n p ≡ true → held u.told p ≡ line (log ++ e ∷ []) p

@@ -68,11 +68,11 @@ module _ (n : ℕ) (t : Tickets) where
   named-kill k None = refl
   named-kill k (Some conn) = refl
 
-  named-updates : (ts es : List ℕ) (u : PeerSetUpdate Key) → Match (IsTicket t.updates) ts es → named_puts n t (updates_put ts u) ≡ map (λ e. (queue.Updates n e, item.Update u)) es
+  named-updates : (ts es : List ℕ) (u : PeerSetUpdate Key) → Match (IsTicket t.updates) ts es → named_puts n t (updates_put ts u) ≡ map (λ e. (queue.PeerSetUpdates n e, item.PeerSetUpdate u)) es
   named-updates [] [] u h = refl
   named-updates (k ∷ ts) (e ∷ es) u h =
-      ap (λ d. (queue.Updates n d, item.Update u) ∷ named_puts n t (updates_put ts u)) (slice_index-get t.updates k e 0 h.0)
-      ∙ ap (λ l. (queue.Updates n e, item.Update u) ∷ l) (named-updates ts es u h.1)
+      ap (λ d. (queue.PeerSetUpdates n d, item.PeerSetUpdate u) ∷ named_puts n t (updates_put ts u)) (slice_index-get t.updates k e 0 h.0)
+      ∙ ap (λ l. (queue.PeerSetUpdates n e, item.PeerSetUpdate u) ∷ l) (named-updates ts es u h.1)
   named-updates [] (e ∷ es) u h = absurd h
   named-updates (k ∷ ts) [] u h = absurd h
 
@@ -151,7 +151,7 @@ module _ (n : ℕ) (t : Tickets) where
           ap (λ d. named_puts n t (puts_for key_cmp rules updates sets waiting heard runs calls now d)) h.1 ∙ named-blocked (call.Block key now) key
       named-message e (act.Ask (ask.PeerSet index) k) m h =
           ap (λ d. named_puts n t (puts_for key_cmp rules updates sets waiting heard runs calls now d)) h.1
-          ∙ ap (λ d. (queue.Answer n d, item.PeerSet (peer_set_of key_cmp rules calls index)) ∷ []) (slice_index-get t.questions h.0 e 0 h.2)
+          ∙ ap (λ d. (queue.PeerSet n d, item.PeerSet (peer_set_of key_cmp rules calls index)) ∷ []) (slice_index-get t.questions h.0 e 0 h.2)
       named-message e (act.Ask ask.Subscribe k) m h =
           ap (λ d. named_puts n t (puts_for key_cmp rules updates sets waiting heard runs calls now d)) h.1
           ∙ named-told (h.0 ∷ []) (e ∷ []) (latest_update key_cmp rules calls) (h.2, tt)

@@ -40,12 +40,12 @@ lost-append h before (x ∷ xs) ys =
     ∙ sym (append_assoc first (lost h (before ++ x ∷ []) xs) (lost h (before ++ x ∷ xs) ys))
 
 pub no_ring : (q : Queue) → is_ring q ≡ false → ring_of q ≡ []
-no_ring (queue.Update n) h = absurd (cc)
+no_ring (queue.Addresses n) h = absurd (cc)
 no_ring (queue.Blocked n e) h = absurd (cc)
 no_ring _ h = refl
 
 pub one_ring : (q : Queue) → is_ring q ≡ true → ring_of q ≡ q ∷ []
-one_ring (queue.Update n) h = refl
+one_ring (queue.Addresses n) h = refl
 one_ring (queue.Blocked n e) h = refl
 one_ring _ h = absurd (cc)
 
@@ -67,7 +67,7 @@ rings_of-last xs x = flat_map-append (λ (y : Queue × Item). ring_of y.0) xs (x
 lost-ring : (h g : Queue → List Envelope) (before : List Queue) (q : Queue) → ((p : Queue) → g p ≡ drop (count_by (is_same p) before) (h p))
     → flat_map (λ p. overwritten (g p)) (ring_of q) ≡ lost h before (ring_of q)
 unfolding lost
-lost-ring h g before (queue.Update n) held_now = ap (λ l. overwritten l ++ []) (held_now (queue.Update n))
+lost-ring h g before (queue.Addresses n) held_now = ap (λ l. overwritten l ++ []) (held_now (queue.Addresses n))
 lost-ring h g before (queue.Blocked n e) held_now = ap (λ l. overwritten l ++ []) (held_now (queue.Blocked n e))
 lost-ring h g before _ held_now = refl
 

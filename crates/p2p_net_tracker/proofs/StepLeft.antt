@@ -50,7 +50,7 @@ pub record Left (configs : List Config) (log : List Entry) (at seed n : ℕ) (t 
   pub desk : LeavesDesk t.mailbox.desk (record u.mailbox.desk { messages = record u.mailbox.desk.messages { items = t.mailbox.desk.messages.items } })
   pub items : u.mailbox.desk.messages.items ≡ messages
   pub answered : Match (λ x a. IsAnswer x.item a) (line (log ++ step_entry at seed n r ∷ []) (queue.Dialer n)) u.mailbox.dialer
-  pub heard_left : HeardStands u.mailbox.heard (line (log ++ step_entry at seed n r ∷ []) (queue.Update n))
+  pub heard_left : HeardStands u.mailbox.heard (line (log ++ step_entry at seed n r ∷ []) (queue.Addresses n))
   pub told_handshakes : (k : ℕ) → HandshakeStands (line_of u.mailbox.handshakes k) (is_handshaking log n k) (line (log ++ step_entry at seed n r ∷ []) (queue.Handshake n k))
   pub distinct : AreDistinct u.mailbox.handshakes
   pub told_left : (q : Queue) → is_told n q ≡ true → held u.told q ≡ line (log ++ step_entry at seed n r ∷ []) q

@@ -39,14 +39,13 @@ use Rattle.p2p_log_rules.specs.declared.row.Row.{Row}
 use Rattle.p2p_log_rules.specs.Connections.{is_ended}
 use Rattle.p2p_log_rules.specs.Facts.{taken, item_named}
 use Rattle.p2p_log_rules.specs.Handshakes.{is_handshaking}
-use Rattle.p2p_log_rules.specs.Rows.{only}
+use Rattle.p2p_log_rules.specs.Rows.{only, taken_row}
 use Rattle.p2p_log_rules.specs.Tracking.{key_cmp, rules_at, grants_peer, calls_of, update_subscriptions, blocked_subscriptions}
 use Rattle.p2p_log_rules.specs.TrackerPuts as puts
 use Rattle.p2p_log_rules.specs.TrackerPuts.{heeded}
 use Rattle.p2p_log_rules.specs.TrackerRows.{rings_of, tracker_told_row, served_row, tracker_step}
 use Rattle.p2p_log_rules.proofs.Recorded.{item_named-first}
 use Rattle.p2p_net_queues.specs.Board.{held}
-use Rattle.p2p_net_queues.specs.Rows.{taken_row}
 use Rattle.p2p_net_queues.proofs.Going.{line-kept}
 use Rattle.p2p_net_tracker.specs.declared.tracker.Tracker.{Tracker}
 use Rattle.p2p_net_tracker.specs.GivenBack.{IsGivenBack}
@@ -182,13 +181,13 @@ module _ (configs : List Config) (log : List Entry) (at seed n : ℕ) (t u : Tra
 
   -- what the listener is told, in place of what waits for it
   heard_now : (names : List (ℕ × ℕ)) (put : List (Put Key)) (start : Mailbox Key) → Told log e n names (named_puts n t.tickets put) → u.mailbox ≡ after_puts put start → TellsFew (runs_in start) put
-      → HeardStands start.heard (line log (queue.Update n)) → HeardStands u.mailbox.heard (line (log ++ e ∷ []) (queue.Update n))
+      → HeardStands start.heard (line log (queue.Addresses n)) → HeardStands u.mailbox.heard (line (log ++ e ∷ []) (queue.Addresses n))
   heard_now names put start told mailbox few before =
-      let q = queue.Update n in
+      let q = queue.Addresses n in
       let xs = named_puts n t.tickets put in
       subst (HeardStands u.mailbox.heard) (sym (heard-told log e n names xs told))
       (subst (λ (m : Mailbox Key). HeardStands m.heard (drop (count_by (is_same q) (rings_of xs)) (line log q) ++ filter (stands_in q) (placed (length log) 0 xs))) (sym mailbox)
-      (heard-after n t.tickets (length log) put start (line log (queue.Update n)) few before))
+      (heard-after n t.tickets (length log) put start (line log (queue.Addresses n)) few before))
 
   -- what handshakes are told, beside what waits for them
   handshakes_now : (names : List (ℕ × ℕ)) (put : List (Put Key)) (start : Mailbox Key) → Told log e n names (named_puts n t.tickets put) → u.mailbox ≡ after_puts put start → TellsFew (runs_in start) put
@@ -369,7 +368,7 @@ module _ (configs : List Config) (log : List Entry) (at seed n : ℕ) (t u : Tra
           items = ap (λ (m : Mailbox Key). m.desk.messages.items) mailbox;
           answered = subst (λ l. Match (λ x a. IsAnswer x.item a) l u.mailbox.dialer) (sym (same (queue.Dialer n)))
               (subst (Match (λ (x : Envelope) a. IsAnswer x.item a) (line log (queue.Dialer n))) (sym (ap (λ (m : Mailbox Key). m.dialer) mailbox)) s.dialer);
-          heard_left = subst (HeardStands u.mailbox.heard) (sym (same (queue.Update n))) (subst (λ (m : Mailbox Key). HeardStands m.heard (line log (queue.Update n))) (sym mailbox) s.heard);
+          heard_left = subst (HeardStands u.mailbox.heard) (sym (same (queue.Addresses n))) (subst (λ (m : Mailbox Key). HeardStands m.heard (line log (queue.Addresses n))) (sym mailbox) s.heard);
           told_handshakes = λ k.
               subst (HandshakeStands (line_of u.mailbox.handshakes k) (is_handshaking log n k)) (sym (same (queue.Handshake n k)))
               (subst (λ (m : Mailbox Key). HandshakeStands (line_of m.handshakes k) (is_handshaking log n k) (line log (queue.Handshake n k))) (sym mailbox) (s.handshakes k));
@@ -455,7 +454,7 @@ gone_stands configs log at seed n t s =
       desk = record { messages = refl; questions = refl; updates = refl; sets = refl };
       items = refl;
       answered = subst (λ l. Match (λ x a. IsAnswer x.item a) l t.mailbox.dialer) (sym (same (queue.Dialer n))) s.dialer;
-      heard_left = subst (HeardStands t.mailbox.heard) (sym (same (queue.Update n))) s.heard;
+      heard_left = subst (HeardStands t.mailbox.heard) (sym (same (queue.Addresses n))) s.heard;
       told_handshakes = λ k. subst (HandshakeStands (line_of t.mailbox.handshakes k) (is_handshaking log n k)) (sym (same (queue.Handshake n k))) (s.handshakes k);
       distinct = s.distinct;
       told_left = λ q own. s.told q own ∙ sym (same q);

@@ -135,14 +135,14 @@ pub record StopsTracker (configs : List Config) (log : List Entry) (e : Entry) (
   pub asked : (d : ℕ) → asks_at (log ++ e ∷ []) n d ≡ asks_at log n d
   pub answered : (d : ℕ) → was_answered (log ++ e ∷ []) d ≡ was_answered log d
   pub mailbox : line (log ++ e ∷ []) (queue.Tracker n) ≡ []
-  pub listener : line (log ++ e ∷ []) (queue.Update n) ≡ []
+  pub listener : line (log ++ e ∷ []) (queue.Addresses n) ≡ []
   pub dialer : line (log ++ e ∷ []) (queue.Dialer n) ≡ []
   pub handshakes : (k : ℕ) → line (log ++ e ∷ []) (queue.Handshake n k) ≡ []
   pub no_handshake : (k : ℕ) → is_handshaking (log ++ e ∷ []) n k ≡ false
 
 -- its lines are left to show
 pub stop_leaves : (configs : List Config) (log : List Entry) (e : Entry) (n : ℕ) → IsStopOf log e n
-    → line (log ++ e ∷ []) (queue.Tracker n) ≡ [] → line (log ++ e ∷ []) (queue.Update n) ≡ [] → line (log ++ e ∷ []) (queue.Dialer n) ≡ []
+    → line (log ++ e ∷ []) (queue.Tracker n) ≡ [] → line (log ++ e ∷ []) (queue.Addresses n) ≡ [] → line (log ++ e ∷ []) (queue.Dialer n) ≡ []
     → ((k : ℕ) → line (log ++ e ∷ []) (queue.Handshake n k) ≡ []) → StopsTracker configs log e n
 stop_leaves configs log e n stop mailbox listener dialer handshakes =
     let no_step : steps_tracker n e.event.act ≡ false = ap (steps_tracker n) stop.acts in

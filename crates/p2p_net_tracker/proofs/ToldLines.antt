@@ -47,7 +47,7 @@ named-each n t (p ∷ ps) = one p (named-each n t ps)
     one (put.Dial grant) rest = (eq-eqb n n refl, rest)
 
 ring_is_told : (n : ℕ) (q : Queue) → is_told n q ≡ true → Each (λ p. is_told n p ≡ true) (ring_of q)
-ring_is_told n (queue.Update m) h = (h, tt)
+ring_is_told n (queue.Addresses m) h = (h, tt)
 ring_is_told n (queue.Blocked m e) h = (h, tt)
 ring_is_told n _ h = tt
 
@@ -69,7 +69,7 @@ none_put n m k p xs h = filter-none (stands_in (queue.Tracker m)) (placed k p xs
 
 -- nor the dialer's line
 ring_not_dialer : (n : ℕ) (q : Queue) → Each (λ p. is_same (queue.Dialer n) p ≡ false) (ring_of q)
-ring_not_dialer n (queue.Update m) = (refl, tt)
+ring_not_dialer n (queue.Addresses m) = (refl, tt)
 ring_not_dialer n (queue.Blocked m e) = (refl, tt)
 ring_not_dialer n _ = tt
 
@@ -79,7 +79,7 @@ rings_not_dialer n (x ∷ xs) = Each-append (λ p. is_same (queue.Dialer n) p �
 
 -- nor that of a handshake
 ring_not_handshake : (n k : ℕ) (q : Queue) → Each (λ p. is_same (queue.Handshake n k) p ≡ false) (ring_of q)
-ring_not_handshake n k (queue.Update m) = (refl, tt)
+ring_not_handshake n k (queue.Addresses m) = (refl, tt)
 ring_not_handshake n k (queue.Blocked m e) = (refl, tt)
 ring_not_handshake n k _ = tt
 
@@ -130,10 +130,10 @@ module _ (log : List Entry) (e : Entry) (n : ℕ) (takes : List (ℕ × ℕ)) (x
       ∙ (ap (λ l. filter (stands_in (queue.Tracker n)) left ++ l) (none_put n n (length log) 0 xs h.each) ∙ append-nil (filter (stands_in (queue.Tracker n)) left)))
 
   -- what the listener is told
-  pub heard-told : line (log ++ e ∷ []) (queue.Update n) ≡ drop (count_by (is_same (queue.Update n)) (rings_of xs)) (line log (queue.Update n)) ++ filter (stands_in (queue.Update n)) (placed (length log) 0 xs)
+  pub heard-told : line (log ++ e ∷ []) (queue.Addresses n) ≡ drop (count_by (is_same (queue.Addresses n)) (rings_of xs)) (line log (queue.Addresses n)) ++ filter (stands_in (queue.Addresses n)) (placed (length log) 0 xs)
   heard-told =
-      line-told (queue.Update n)
-      ∙ ap (λ l. drop (count_by (is_same (queue.Update n)) (rings_of xs)) l ++ filter (stands_in (queue.Update n)) (placed (length log) 0 xs)) (h.away (queue.Update n) (eq-eqb n n refl))
+      line-told (queue.Addresses n)
+      ∙ ap (λ l. drop (count_by (is_same (queue.Addresses n)) (rings_of xs)) l ++ filter (stands_in (queue.Addresses n)) (placed (length log) 0 xs)) (h.away (queue.Addresses n) (eq-eqb n n refl))
 
   -- what a handshake is told
   pub handshake-told : (k : ℕ) → line (log ++ e ∷ []) (queue.Handshake n k) ≡ line log (queue.Handshake n k) ++ filter (stands_in (queue.Handshake n k)) (placed (length log) 0 xs)

@@ -11,7 +11,7 @@ use Rattle.p2p_log.specs.declared.entry.Reply.TheVariants as reply
 use Rattle.p2p_log.specs.QueueCode.{same_queue}
 use Rattle.p2p_log_rules.specs.declared.row.Row.{Row}
 use Rattle.p2p_log_rules.specs.Rows.{only}
-use Rattle.p2p_log_rules.specs.TrackerRows.{told_of, taken_row}
+use Rattle.p2p_log_rules.specs.TrackerRows.{told_of, taken_with}
 use Rattle.p2p_net_queues.specs.Board.{held}
 use Rattle.p2p_net_queues.specs.Tables as table
 use Rattle.p2p_net_tracker.specs.declared.question.Question.{Question}
@@ -33,7 +33,7 @@ no_more stopped = cond stopped reply.StreamEnded reply.Pending
 -- the first item is taken, or this is answered
 abbrev pub read_first : Reply → Option Envelope → Row
 read_first empty None = only empty
-read_first empty (Some x) = taken_row (told_of x.item) x
+read_first empty (Some x) = taken_with (told_of x.item) x
 
 -- the oldest item of a queue is taken
 abbrev pub Pops : Queue → Tracker → Tracker → Type 0
@@ -54,8 +54,8 @@ noted false e l = l
 abbrev pub ReadsAnswerBy : Bool → Bool → ℕ → ℕ → Tracker → Tracker → Row → Type 0
 ReadsAnswerBy true stopped n e old new r = OnlyAnswers reply.Gone old new r
 ReadsAnswerBy false stopped n e old new r =
-    (r ≡ read_first (no_answer stopped) (slice_get (held old.told (queue.Answer n e)) 0))
-    × (Pops (queue.Answer n e) old new × (new ≡ record old { told = new.told; answered = noted (is_peer_set r.reply) e old.answered }))
+    (r ≡ read_first (no_answer stopped) (slice_get (held old.told (queue.PeerSet n e)) 0))
+    × (Pops (queue.PeerSet n e) old new × (new ≡ record old { told = new.told; answered = noted (is_peer_set r.reply) e old.answered }))
 
 abbrev pub ReadsAnswer : Bool → ℕ → ℕ → Tracker → Tracker → Row → Type 0
 ReadsAnswer stopped n e old new r = ReadsAnswerBy (is_some (table.at old.answered e)) stopped n e old new r
@@ -69,7 +69,7 @@ abbrev pub Answers : Bool → ℕ → ℕ → Tracker → Tracker → Row → Ty
 Answers stopped n e old new r = AnswersBy (table.at old.questions e) stopped n e old new r
 
 abbrev pub ContinuesBy : Option Question → Bool → ℕ → ℕ → Tracker → Tracker → Row → Type 0
-ContinuesBy (Some question.Updates) stopped n e old new r = ReadsFrom (no_more stopped) (queue.Updates n e) old new r
+ContinuesBy (Some question.Updates) stopped n e old new r = ReadsFrom (no_more stopped) (queue.PeerSetUpdates n e) old new r
 ContinuesBy (Some question.Blocked) stopped n e old new r = ReadsFrom (no_more stopped) (queue.Blocked n e) old new r
 ContinuesBy _ stopped n e old new r = OnlyAnswers reply.Gone old new r
 

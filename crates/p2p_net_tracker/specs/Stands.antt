@@ -50,11 +50,11 @@ use Rattle.p2p_net_tracker.specs.declared.tracker.Tracker.{Tracker}
 
 -- whether a queue is one in which the tracker of the node tells something
 abbrev pub is_told : ℕ → Queue → Bool
-is_told n (queue.Update m) = m == n
+is_told n (queue.Addresses m) = m == n
 is_told n (queue.Dialer m) = m == n
 is_told n (queue.Control m e) = m == n
-is_told n (queue.Answer m e) = m == n
-is_told n (queue.Updates m e) = m == n
+is_told n (queue.PeerSet m e) = m == n
+is_told n (queue.PeerSetUpdates m e) = m == n
 is_told n (queue.Blocked m e) = m == n
 is_told n (queue.Handshake m e) = m == n
 is_told n _ = false
@@ -188,7 +188,7 @@ pub record TrackerStands (configs : List Config) (log : List Entry) (n : ℕ) (t
   -- what the dialer is answered is its line
   pub dialer : Match (λ x a. IsAnswer x.item a) (line log (queue.Dialer n)) t.mailbox.dialer
   -- what the listener is told is its line, and so it is for each handshake
-  pub heard : HeardStands t.mailbox.heard (line log (queue.Update n))
+  pub heard : HeardStands t.mailbox.heard (line log (queue.Addresses n))
   pub handshakes : (k : ℕ) → HandshakeStands (line_of t.mailbox.handshakes k) (is_handshaking log n k) (line log (queue.Handshake n k))
   pub distinct : AreDistinct t.mailbox.handshakes
   -- what waits for those who asked is their line

@@ -16,10 +16,9 @@ use Rattle.p2p_log.specs.declared.queue.Queue.{Queue}
 use Rattle.p2p_log.specs.declared.item.Item.{Item}
 use Rattle.p2p_log.specs.declared.entry.Reply.TheVariants as reply
 use Rattle.p2p_log_rules.specs.declared.row.Row.{Row}
-use Rattle.p2p_log_rules.specs.Rows.{only}
+use Rattle.p2p_log_rules.specs.Rows.{only, taken_row}
 use Rattle.p2p_log_rules.specs.Tracking.{key_cmp}
 use Rattle.p2p_net_queues.specs.Board.{held}
-use Rattle.p2p_net_queues.specs.Rows.{taken_row}
 use Rattle.p2p_net_tracker.specs.Heeding.{heeded_by}
 use Rattle.p2p_net_tracker.specs.Naming.{named_puts}
 use Rattle.p2p_net_tracker.specs.Telling.{told_in, told_to}

@@ -13,7 +13,7 @@ use Rattle.p2p_log_rules.specs.TrackerRows.{rings_of}
 
 -- whether a queue holds one item
 abbrev pub is_ring : Queue → Bool
-is_ring (queue.Update n) = true
+is_ring (queue.Addresses n) = true
 is_ring (queue.Blocked n e) = true
 is_ring _ = false
 

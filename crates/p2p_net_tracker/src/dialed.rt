@@ -66,13 +66,13 @@ impl Tracker {
     ///
     /// `Err` only where there is no memory.
     pub fn take_update(&mut self, turn: Turn) -> Result<Row, AllocError>
-        ensures row { IfOk result (λ r. r ≡ updated_row (held self.old.told (queue.Update turn.node))) }
+        ensures row { IfOk result (λ r. r ≡ updated_row (held self.old.told (queue.Addresses turn.node))) }
         ensures told { OnOk result ((q : Name) → held self.new.told q
-            ≡ (if same_queue (queue.Update turn.node) q then drop 1 (held self.old.told q) else held self.old.told q)) }
+            ≡ (if same_queue (queue.Addresses turn.node) q then drop 1 (held self.old.told q) else held self.old.told q)) }
         ensures rest { OnOk result (self.new ≡ record self.old { told = self.new.told }) }
     {
         let mut row = only(turn.alloc, Reply::Ok);
-        self.take_oldest(Queue::Update(turn.node), &mut row)?;
+        self.take_oldest(Queue::Addresses(turn.node), &mut row)?;
         Ok(row)
     }
 

@@ -71,11 +71,14 @@ fn name(node: u64, tickets: &Tickets, put: Put<Key>) -> Option<(Queue, Item)>
     match put {
         Put::Kill { conn, .. } => Some((Queue::Control { node, conn }, Item::Kill)),
         Put::Listenable { addresses, .. } => {
-            Some((Queue::Update(node), Item::Addresses(addresses)))
+            Some((Queue::Addresses(node), Item::Addresses(addresses)))
         }
         Put::Update { ticket, update } => {
             let question = event_of(&tickets.updates, ticket);
-            Some((Queue::Updates { node, question }, Item::Update(update)))
+            Some((
+                Queue::PeerSetUpdates { node, question },
+                Item::PeerSetUpdate(update),
+            ))
         }
         Put::Blocked {
             ticket,
@@ -87,7 +90,7 @@ fn name(node: u64, tickets: &Tickets, put: Put<Key>) -> Option<(Queue, Item)>
         }
         Put::PeerSet { ticket, peers } => {
             let question = event_of(&tickets.questions, ticket);
-            Some((Queue::Answer { node, question }, Item::PeerSet(peers)))
+            Some((Queue::PeerSet { node, question }, Item::PeerSet(peers)))
         }
         Put::Dialable(list) => {
             let item = Item::Dialable {

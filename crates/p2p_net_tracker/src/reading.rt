@@ -16,7 +16,7 @@ fn reply_for(item: Item) -> Reply
 {
     match item {
         Item::PeerSet(peers) => Reply::PeerSet(peers),
-        Item::Update(update) => Reply::Update(update),
+        Item::PeerSetUpdate(update) => Reply::Update(update),
         Item::Blocked(keys) => Reply::Blocked(keys),
         _ => Reply::Pending,
     }
@@ -78,7 +78,7 @@ impl Tracker {
             return Ok(only(turn.alloc, Reply::Gone));
         }
         let node = turn.node;
-        let queue = Queue::Answer { node, question };
+        let queue = Queue::PeerSet { node, question };
         let row = self.read(turn.alloc, queue, no_answer(stopped))?;
         if is_answer(&row.reply) {
             self.answered.insert(question, true)?;
@@ -108,7 +108,7 @@ impl Tracker {
         let node = turn.node;
         match self.questions.get(question) {
             Some(Question::Updates) => {
-                let queue = Queue::Updates { node, question };
+                let queue = Queue::PeerSetUpdates { node, question };
                 Ok(self.read(turn.alloc, queue, no_more(stopped))?)
             }
             Some(Question::Blocked) => {

@@ -24,7 +24,7 @@ fn is_ring(queue: &Queue) -> bool
     ensures { result ≡ is_ring queue.now }
 {
     match queue {
-        Queue::Update(_) => true,
+        Queue::Addresses(_) => true,
         Queue::Blocked { .. } => true,
         _ => false,
     }

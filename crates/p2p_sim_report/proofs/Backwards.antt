@@ -36,7 +36,7 @@ left_from-gone gone n i x xs b e t =
 pub left_from-before : (gone : ℕ × ℕ → Bool) (n i : ℕ) (xs : List (Queue × Item)) → 0 < i → i ≤ length xs → gone (n, i - 1) ≡ true
     → left_from gone n (i - 1) (drop (i - 1) xs) ≡ left_from gone n i (drop i xs)
 left_from-before gone n i xs some within is =
-    let any : Queue × Item = (queue.Router 0, item.Answer) in
+    let any : Queue × Item = (queue.Router 0, item.RouterAnswer) in
     let back : i - 1 + 1 ≡ i = omega arith in
     ap (left_from gone n (i - 1)) (drop_before xs i any some within)
     ∙ left_from-gone gone n (i - 1) (get_or xs (i - 1) any) (drop i xs) true is refl

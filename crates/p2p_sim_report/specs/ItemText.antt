@@ -48,7 +48,7 @@ item_onto out (item.Subscribe c) = subscribe_onto out c
 item_onto out (item.Ready conn k) = ready_onto out conn k
 item_onto out (item.Content c frame priority send to) = content_onto out c frame priority send to
 item_onto out (item.Peers keys) = list_onto key_onto out keys
-item_onto out item.Answer = out ++ codes "true"
+item_onto out item.RouterAnswer = out ++ codes "true"
 item_onto out (item.Frame copy frame) = frame_onto out copy frame
 item_onto out (item.Held c bytes copy) = held_onto out c bytes copy
 item_onto out item.Ping = out ++ codes "\"ping\""
@@ -73,7 +73,7 @@ item_onto out (item.Listen grant) = listen_onto out grant
 item_onto out (item.Spawn k link) = spawn_onto out k link
 item_onto out item.Kill = out ++ codes "\"kill\""
 item_onto out (item.PeerSet peers) = peer_set_onto out peers
-item_onto out (item.Update update) = update_onto out update
+item_onto out (item.PeerSetUpdate update) = update_onto out update
 item_onto out (item.Blocked keys) = list_onto key_onto out keys
 
 -- a put: [queue,item]

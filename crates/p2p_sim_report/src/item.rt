@@ -144,7 +144,7 @@ impl ToText for Item {
                 to.as_slice(),
             ),
             Item::Peers(keys) => put_list(out, keys.as_slice()),
-            Item::Answer => put(out, "true"),
+            Item::RouterAnswer => put(out, "true"),
             Item::Frame { copy, frame } => put_frame(out, *copy, frame.as_slice()),
             Item::Held {
                 channel,
@@ -173,7 +173,7 @@ impl ToText for Item {
             Item::Spawn { key, link } => put_spawn(out, *key, *link),
             Item::Kill => put(out, "\"kill\""),
             Item::PeerSet(peers) => put_peer_set(out, peers),
-            Item::Update(update) => put_update(out, update),
+            Item::PeerSetUpdate(update) => put_update(out, update),
             Item::Blocked(keys) => put_list(out, keys.as_slice()),
         }
     }

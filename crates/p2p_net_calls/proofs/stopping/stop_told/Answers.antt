@@ -14,5 +14,5 @@ returns-clause-drains c =
     let mid = c.end_told.new.row in
     let after = c.end_told-2.new.row in
     λ l.
-    drains_both n (queue.Update n ∷ []) (queue.Dialer n ∷ []) x y z l l l row mid after
+    drains_both n (queue.Addresses n ∷ []) (queue.Dialer n ∷ []) x y z l l l row mid after
     (update_drains n x y l row mid c.in_ok-end_told.ensures) (dialer_drains n y z l mid after c.in_ok-end_told-2.ensures)

@@ -21,7 +21,7 @@ returns-in_ok-receive-in-Some-Running-clause-does c =
     let m = c.receive.new.links in
     let r = c.in_ok-receive-in-Some-Running.field-0 in
     let none = nothing_copied c.held.result (sym c.is_some.ensures ∙ c.if-is_some.false) in
-    subst (λ (b : Bool). RecvStepsBy b k n c.args.conn c.args.at x y l m r) c.if-not-is_started.ensures
+    subst (λ (b : Bool). RecvStepsBy b k n c.args.conn c.args.at x y l m r) c.if-not-is_up.ensures
     (subst (λ (o : Option Half). StepsOn o k n c.args.conn c.args.at x y l m r) c.in-Some.ensures
     (subst (λ (o : Option Stage). StepsAt o k n c.args.conn c.args.at c.in-Some.half x y l m r) (sym (ap Some c.in-Some-Running.field-0-is) ∙ c.in-Some-Running.ensures)
     (subst (λ o. StepsBy o k n c.args.conn c.args.at c.in-Some.half x y l m r) (sym none ∙ c.held.ensures) c.in_ok-receive-in-Some-Running.ensures.does)))

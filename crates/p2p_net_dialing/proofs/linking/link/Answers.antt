@@ -14,10 +14,10 @@ returns-then-not-arrives c =
     let x = c.index_mut-first.result.now in
     let y = c.index.result.now in
     let after : Node = record x { dialing = c.answer_dial.new.self } in
-    linked_to_none c.args.entry c.args.attempt c.args.ends.dials c.args.ends.listens c.args.from nodes x y after c.is_started-runs.result c.in_ok-row.row
+    linked_to_none c.args.entry c.args.attempt c.args.ends.dials c.args.ends.listens c.args.from nodes x y after c.is_up-runs.result c.in_ok-row.row
     (found nodes c.args.ends.dials x c.requires.in_range.0 c.index_mut-first.ensures.value)
     (found nodes c.args.ends.listens y c.requires.in_range.1 c.index.ensures)
-    c.is_started-runs.ensures (c.in_ok-row.ensures.answers, (c.in_ok-row.ensures.actor, refl)) c.arrives.result c.arrives.ensures c.args.links.now c.if-not-arrives.true
+    c.is_up-runs.ensures (c.in_ok-row.ensures.answers, (c.in_ok-row.ensures.actor, refl)) c.arrives.result c.arrives.ensures c.args.links.now c.if-not-arrives.true
 
 pub returns : goal.returns
 returns c =
@@ -32,7 +32,7 @@ returns c =
     in
     subst (λ (l : Listening). IsLinked c.args.entry c.args.attempt c.args.ends.dials c.args.ends.listens c.args.from nodes (slice_set mid c.args.ends.listens (record z { listening = l })) c.args.links.now c.«open».new.self c.arrive.new.row)
     (sym c.in_ok-arrive.ensures.after)
-    (linked_to c.args.entry c.args.attempt c.args.ends.dials c.args.ends.listens c.args.from nodes x y after c.is_started-runs.result c.in_ok-row.row
+    (linked_to c.args.entry c.args.attempt c.args.ends.dials c.args.ends.listens c.args.from nodes x y after c.is_up-runs.result c.in_ok-row.row
     (found nodes c.args.ends.dials x c.requires.in_range.0 c.index_mut-first.ensures.value)
     (found nodes c.args.ends.listens y c.requires.in_range.1 c.index.ensures)
-    c.is_started-runs.ensures (c.in_ok-row.ensures.answers, (c.in_ok-row.ensures.actor, refl)) c.arrives.result c.arrives.ensures c.args.links.now z c.«open».new.self c.arrive.new.row c.if-not-arrives.false there c.in_ok-arrive.ensures.row c.in_ok-open.ensures)
+    c.is_up-runs.ensures (c.in_ok-row.ensures.answers, (c.in_ok-row.ensures.actor, refl)) c.arrives.result c.arrives.ensures c.args.links.now z c.«open».new.self c.arrive.new.row c.if-not-arrives.false there c.in_ok-arrive.ensures.row c.in_ok-open.ensures)

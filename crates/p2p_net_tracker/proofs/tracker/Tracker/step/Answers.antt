@@ -2,7 +2,7 @@ use Rattle.std.specs.Prelude.{slice_get}
 use Rattle.std.proofs.Common.{◌≡◌, length, Some, ap, sym, subst, ◌∙◌, refl}
 use Rattle.p2p_log_rules.specs.declared.row.Row.{Row}
 use Rattle.p2p_net_queues.specs.Board.{held}
-use Rattle.p2p_net_queues.specs.Rows.{taken_row}
+use Rattle.p2p_log_rules.specs.Rows.{taken_row}
 use Rattle.p2p_net_tracker.specs.Heeding.{heeded_by}
 use Rattle.p2p_net_tracker.specs.Naming.{named_puts}
 use Rattle.p2p_net_tracker.specs.Telling.{told_in, told_to}
