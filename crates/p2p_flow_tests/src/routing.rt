@@ -155,11 +155,9 @@ fn route(
         return Ok([false; 4]);
     };
     let routed = is_routed(copies.as_slice());
-    let released = tell(alloc, messenger, None)?
-        && matches!(
-            actor.step(messenger)?,
-            Stepped::Release { peer: Key(2), .. }
-        );
+    let is_told = tell(alloc, messenger, None)?;
+    let stepped = actor.step(messenger)?;
+    let released = is_told && matches!(stepped, Stepped::Release { peer: Key(2), .. });
     let idle = matches!(actor.step(messenger)?, Stepped::Idle);
     Ok([told == OK, routed, released, idle && !actor.has_relay(24)])
 }

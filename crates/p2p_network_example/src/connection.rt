@@ -4,7 +4,7 @@ ghost use Rattle.p2p_network_example.specs.Asking.{IsIdle};
 ghost use Rattle.p2p_network_example.specs.Connecting.{IsWith, TellsNext, KeepsSenders};
 
 use crate::NAME;
-use crate::tracker::{is_idle, serve};
+use crate::tracker::{serve, took_none};
 use anyhow::{Result, bail};
 use p2p_base::{Key, Sent};
 use p2p_lookup::Running;
@@ -167,7 +167,7 @@ pub fn send_step(
     ensures with { OnOk result (IsWith connection.new.peer connection.new.actor) }
     ensures senders { OnOk result (KeepsSenders running.old.way running.new.way) }
 {
-    if !is_idle(&mut running.tracker_way) {
+    if !took_none(&mut running.tracker_way) {
         bail!("the tracker was asked");
     }
     let stepped = send(alloc, connection, running, link)?;
@@ -189,7 +189,7 @@ pub fn recv_step(
     ensures with { OnOk result (IsWith connection.new.peer connection.new.actor) }
     ensures senders { OnOk result (KeepsSenders running.old.way running.new.way) }
 {
-    if !is_idle(&mut running.tracker_way) {
+    if !took_none(&mut running.tracker_way) {
         bail!("the tracker was asked");
     }
     let stepped = receive(alloc, connection, running, link)?;

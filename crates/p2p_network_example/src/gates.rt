@@ -6,7 +6,7 @@ ghost use Rattle.p2p_network_example.specs.Listening.{Stands};
 
 use crate::NAME;
 use crate::node::at;
-use crate::tracker::{is_idle, serve};
+use crate::tracker::{serve, took_none};
 use anyhow::{Result, bail};
 use p2p_base::Key;
 use p2p_gates::{Attempt, AttemptItem, Dialer, Handshake, Listener, Outcome, Put, Stepped};
@@ -53,7 +53,7 @@ fn dial_step(
     way: &mut Mailbox<Key>,
     dialer: &mut Dialer<Key>,
 ) -> Result<Outcome<Key>> {
-    if !is_idle(way) {
+    if !took_none(way) {
         bail!("the tracker was asked");
     }
     let stepped = ask_dialer(way, dialer)?;
@@ -112,7 +112,7 @@ fn listen_step(
     ensures stands { OnOk result (Stands listener.new) }
     ensures placed { IfOk result (λ o. is_admitted o ≡ true → 0 < listener.new.places.held) }
 {
-    if !is_idle(way) {
+    if !took_none(way) {
         bail!("the tracker was asked");
     }
     let stepped = ask_listener(way, listener)?;
@@ -160,7 +160,7 @@ fn shake_step(
     way: &mut Mailbox<Key>,
     handshake: &mut Handshake<Key>,
 ) -> Result<Outcome<Key>> {
-    if !is_idle(way) {
+    if !took_none(way) {
         bail!("the tracker was asked");
     }
     let stepped = ask_handshake(way, handshake)?;

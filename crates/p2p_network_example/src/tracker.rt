@@ -6,9 +6,9 @@ use anyhow::Result;
 use p2p_base::Key;
 use p2p_tracker::{Actor, Mailbox, Put, Stepped};
 
-/// Whether nothing waits for the tracker. What waited first is dropped.
+/// Takes the oldest message that waits for the tracker and drops it, and says whether there was none.
 #[tactic(auto, using(crate::proofs::Asked::none_left))]
-pub fn is_idle(way: &mut Mailbox<Key>) -> bool
+pub fn took_none(way: &mut Mailbox<Key>) -> bool
     ensures { result ≡ true → IsIdle way.new }
 {
     way.take().is_none()

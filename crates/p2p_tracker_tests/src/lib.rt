@@ -2,16 +2,14 @@
 //! the gate proves each of those crates once.
 //!
 //! Each test goes through the calls of one type, once with ample memory: of `p2p_tracker_directory` are `records` and `directories`,
-//! of `p2p_tracker_mailbox` `mailboxes` and `oracles`, of `p2p_tracker` is `trackers`, of `p2p_gates` are `dialers` and
-//! `listeners`, of `p2p_discovery` is `infos`, of `p2p_discovery_directory` are `plain`, `controls` and `discovered_oracles`, and of
-//! `p2p_discovery_peer` `discovered` and `networks`. `peers` has the peers that they speak of.
+//! of `p2p_tracker_mailbox` `mailboxes` and `oracles`, of `p2p_tracker` is `trackers`, of `p2p_gates` is `listeners`,
+//! of `p2p_discovery` is `infos`, of `p2p_discovery_directory` are `plain`, `controls` and `discovered_oracles`, and of
+//! `p2p_discovery_peer` is `discovered`. `peers` has the peers that they speak of.
 //! What a tracker, a dialer or a listener does step by step is shown by scripts.
 #![tactic(auto)]
 
 #[cfg(test)]
 mod controls;
-#[cfg(test)]
-mod dialers;
 #[cfg(test)]
 mod directories;
 #[cfg(test)]
@@ -24,8 +22,6 @@ mod infos;
 mod listeners;
 #[cfg(test)]
 mod mailboxes;
-#[cfg(test)]
-mod networks;
 #[cfg(test)]
 mod oracles;
 #[cfg(test)]
