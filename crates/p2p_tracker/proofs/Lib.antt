@@ -1,3 +1,4 @@
+mod Allowed
 pub mod Asking
 pub mod Connecting
 pub mod Exact

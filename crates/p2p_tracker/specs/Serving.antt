@@ -112,3 +112,24 @@ module _ {P : Type 0} (cmp : P → P → Ordering) (kept : Kept P) where
   MayTake (message.Dial k) now = Unit {0}
   MayTake (message.Acceptable k source handshake) now = Unit {0}
   MayTake (message.Listen k source handshake) now = Unit {0}
+
+module _ {P : Type 0} (cmp : P → P → Ordering) (kept : Kept P) where
+  -- by the records alone, the message may be taken at any moment: who has connected is reserved, and what is released is held or has no record
+  abbrev pub is_allowed : Message P → Bool
+  is_allowed (message.Connect k conn) = is_reserved_in (lookup (is_at (cmp k)) kept.records)
+  is_allowed (message.Release m) = is_held_or_unknown (lookup (is_at (cmp (peer_of m))) kept.records)
+  is_allowed (message.Register index peers) = true
+  is_allowed (message.Overwrite peers) = true
+  is_allowed (message.PeerSet index ticket) = true
+  is_allowed (message.Subscribe ticket) = true
+  is_allowed (message.Block k) = true
+  is_allowed (message.SubscribeBlocked ticket) = true
+  is_allowed message.Dialable = true
+  is_allowed (message.Dial k) = true
+  is_allowed (message.Acceptable k source handshake) = true
+  is_allowed (message.Listen k source handshake) = true
+
+  -- and so may the one that waits, if there is one
+  abbrev pub is_next_allowed : Option (Message P) → Bool
+  is_next_allowed None = true
+  is_next_allowed (Some m) = is_allowed m

@@ -1,5 +1,6 @@
 //! `Mailbox`, all that waits for the tracker and all that it answered.
 ghost use Rattle.std.specs.Prelude.{◌≡◌, ◌≤◌, ◌∷◌, ◌++◌, [], IfOk, OnOk, IfErr, OnErr};
+ghost use Rattle.std.specs.Option.{option_copied};
 ghost use Rattle.p2p_tracker_mailbox.specs.Desk.{told_of, next_message, without_message, answered_at, with_update, set_of, with_set};
 ghost use Rattle.p2p_tracker_mailbox.specs.Mailboxes.{new_mailbox, closed_mailbox, with_desk, with_message_in, runs_in, with_item_in};
 ghost use Rattle.p2p_tracker_mailbox.specs.declared.answer.HandshakeItem.TheVariants as shake;
@@ -64,6 +65,13 @@ impl<P: PublicKey> Mailbox<P> {
         self.dialer.clear();
         self.handshakes.clear();
         self.heard = None;
+    }
+
+    /// The oldest message, which stays where it is: nothing is taken. `None` exactly where none waits.
+    pub fn oldest(&self) -> Option<&Message<P>>
+        ensures value { option_copied result ≡ next_message self.now.desk }
+    {
+        self.desk.oldest(&Access(()))
     }
 
     /// Removes the oldest message. `None` exactly where none waits.

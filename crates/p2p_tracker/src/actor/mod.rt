@@ -132,8 +132,8 @@ impl<C: PublicKey> Actor<C> {
     /// Takes away the blocks that have ended at the moment `now`. Where there is none, takes the oldest message of the mailbox and does
     /// what it says. `seed` draws the jitter of a grant.
     ///
-    /// Its `requires` speaks of the oldest message, where no block is due. Of a connect it holds where `may_connect` says so of the peer, of
-    /// a release where `may_release` does, and of each other message it holds. Whoever puts the messages knows which one is the oldest.
+    /// Its `requires` speaks of the oldest message, where no block is due: `may_step` tells whether it holds. Where that answers false the
+    /// message can be taken out of the mailbox by `Mailbox::take`.
     ///
     /// `Err` only where memory runs out. Each later step then answers so.
     ///

@@ -4,7 +4,6 @@ ghost use Rattle.p2p_flow.specs.Provided.{answer_of};
 ghost use Rattle.p2p_tracker_mailbox.specs.Desk.{told_of, asked_by, question_at, answer_taken, subscribed_by, updates_at, update_taken, blocked_subscribed_by, set_of, set_taken};
 
 use super::DeskOf;
-use super::putting::put_last;
 use crate::OracleMessage;
 use crate::question::Question;
 use crate::waiting::Waiting;
@@ -22,7 +21,7 @@ impl<P: PublicKey, M: OracleMessage<PublicKey = P>> DeskOf<P, M> {
     {
         let ticket = self.questions.len() as u64;
         self.questions.reserve(1)?;
-        let told = put_last(&mut self.messages, M::peer_set(index, ticket))?;
+        let told = self.messages.put(M::peer_set(index, ticket))?;
         self.questions.push_reserved(Question::new());
         Ok((ticket, told))
     }
@@ -51,7 +50,7 @@ impl<P: PublicKey, M: OracleMessage<PublicKey = P>> DeskOf<P, M> {
         let ticket = self.updates.len() as u64;
         let alloc = *self.updates.allocator();
         self.updates.reserve(1)?;
-        let told = put_last(&mut self.messages, M::subscribe(ticket))?;
+        let told = self.messages.put(M::subscribe(ticket))?;
         self.updates.push_reserved(Waiting::none(alloc));
         Ok((ticket, told))
     }
@@ -74,7 +73,7 @@ impl<P: PublicKey, M: OracleMessage<PublicKey = P>> DeskOf<P, M> {
     {
         let ticket = self.sets.len() as u64;
         self.sets.reserve(1)?;
-        let told = put_last(&mut self.messages, M::subscribe_blocked(ticket))?;
+        let told = self.messages.put(M::subscribe_blocked(ticket))?;
         self.sets.push_reserved(None);
         Ok((ticket, told))
     }

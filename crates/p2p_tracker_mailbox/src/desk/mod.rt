@@ -1,17 +1,18 @@
 //! `DeskOf`, where an oracle asks the tracker, and finds what it was answered.
 ghost use Rattle.std.specs.Prelude.{◌≡◌, ◌≤◌, IfOk, OnOk, OnErr};
+ghost use Rattle.std.specs.Option.{option_copied};
 ghost use Rattle.p2p_tracker_mailbox.specs.Desk.{new_desk, told_of, with_message, next_message, without_message, ended};
 
 mod answering;
 mod asking;
-mod putting;
+mod messages;
 
 use crate::OracleMessage;
 use crate::question::Question;
 use crate::waiting::Waiting;
-use p2p_base::{Feedback, Mailbox as Queue, PublicKey, Set};
+use messages::Messages;
+use p2p_base::{Feedback, PublicKey, Set};
 use p2p_flow::PeerSetUpdate;
-use putting::put_last;
 use std::alloc::{AllocError, Global};
 use std::marker::Model;
 
@@ -23,7 +24,7 @@ use std::marker::Model;
 /// each subscription it keeps a small entry for good.
 #[derive(Drop)]
 pub struct DeskOf<P: PublicKey, M> {
-    messages: Queue<M>,
+    messages: Messages<M>,
     questions: Vec<Question<P>>,
     updates: Vec<Waiting<PeerSetUpdate<P>>>,
     sets: Vec<Option<Set<P>>>,
@@ -46,7 +47,7 @@ impl<P: PublicKey, M: OracleMessage<PublicKey = P>> DeskOf<P, M> {
         ensures { IfOk result (λ m. m ≡ new_desk size) }
     {
         Ok(DeskOf {
-            messages: Queue::new(alloc, size)?,
+            messages: Messages::new(alloc, size)?,
             questions: Vec::new(alloc),
             updates: Vec::new(alloc),
             sets: Vec::new(alloc),
@@ -60,6 +61,14 @@ impl<P: PublicKey, M: OracleMessage<PublicKey = P>> DeskOf<P, M> {
     {
         let _ = access;
         self.messages.close();
+    }
+
+    /// The oldest message, which stays where it is. `None` exactly where none waits.
+    pub fn oldest(&self, access: &M::Access) -> Option<&M>
+        ensures { option_copied result ≡ next_message self.now }
+    {
+        let _ = access;
+        self.messages.oldest()
     }
 
     /// Removes the oldest message. `None` exactly where none waits.
@@ -96,6 +105,6 @@ impl<P: PublicKey, M: OracleMessage<PublicKey = P>> DeskOf<P, M> {
         ensures after { OnOk result (self.new ≡ with_message self.old message) }
         ensures memory { OnErr result (self.new ≡ self.old) }
     {
-        put_last(&mut self.messages, message)
+        self.messages.put(message)
     }
 }
