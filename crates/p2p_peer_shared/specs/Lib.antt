@@ -3,3 +3,4 @@ pub mod Gathering
 pub mod Hearing
 pub mod Opening
 pub mod Routing
+pub mod Sizing

@@ -12,6 +12,6 @@ pub mod writing;
 
 pub use gathering::{Gathered, gather_for};
 pub use holding::{copy_of, held_copy};
-pub use pacing::half_quota;
+pub use pacing::{half_quota, quota};
 pub use routing::{close_relay, put_ready, put_release};
 pub use writing::write_frames;
