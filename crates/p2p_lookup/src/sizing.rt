@@ -1,11 +1,9 @@
 //! How large what a node keeps is, by its configuration.
-ghost use Rattle.std.specs.Prelude.{◌≡◌, ◌^◌, ◌<◌, ◌≤◌, nat_le, SomeIff};
-ghost use Rattle.p2p_lookup.specs.Sizing.{fits, sizes_fit, max_retained};
+ghost use Rattle.std.specs.Prelude.{◌≡◌, ◌^◌, ◌<◌, SomeIff};
+ghost use Rattle.p2p_lookup.specs.Sizing.{fits, max_retained};
 
 use crate::config::Config;
-
-// The greatest `max_message_size` that a link takes, in bytes.
-const MESSAGE_MAX: u32 = 16_777_200;
+use p2p_peer_shared::network::{HasSizes, Sizes};
 
 impl<P> Config<P> {
     /// Whether a node can be made of it: the sizes of peer sets, mailboxes and batches, how many sets are kept and how many handshakes run
@@ -15,7 +13,7 @@ impl<P> Config<P> {
     pub fn fits(&self) -> bool
         ensures { result ≡ fits self.now }
     {
-        sizes_fit(self) && self.max_retained_peers().is_some()
+        self.sizes().fit() && self.max_retained_peers().is_some()
     }
 
     /// How many peers are retained at most: those of each set that is kept. `None` exactly where that isn't below 2^64.
@@ -28,12 +26,19 @@ impl<P> Config<P> {
     }
 }
 
-// Whether these sizes and counts are 1 or more, and a link takes each message.
-fn sizes_fit<P>(cfg: &Config<P>) -> bool
-    ensures { result ≡ sizes_fit cfg.now }
-{
-    cfg.max_peers_per_set > 0
-        && cfg.mailbox_size > 0
-        && (cfg.tracked_peer_sets > 0 && cfg.send_batch_size > 0)
-        && (cfg.max_concurrent_handshakes > 0 && cfg.max_message_size <= MESSAGE_MAX)
+impl<P> HasSizes for Config<P> {
+    ghost use Rattle.p2p_lookup.specs.Sizing.{sizes_of};
+
+    ghost sizes = { λ c. sizes_of c };
+
+    fn sizes(&self) -> Sizes {
+        Sizes {
+            max_peers_per_set: self.max_peers_per_set,
+            mailbox_size: self.mailbox_size,
+            tracked_peer_sets: self.tracked_peer_sets,
+            send_batch_size: self.send_batch_size,
+            max_concurrent_handshakes: self.max_concurrent_handshakes,
+            max_message_size: self.max_message_size,
+        }
+    }
 }

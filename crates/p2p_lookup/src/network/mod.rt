@@ -16,11 +16,9 @@ ghost use Rattle.p2p_tracker.specs.Tracking.{new_tracking, rules_for};
 ghost use Rattle.p2p_tracker_directory.specs.Stands.{StandsFor};
 ghost use Rattle.p2p_tracker_mailbox.specs.Mailboxes.{new_mailbox};
 
-mod fitting;
 mod running;
 
 use crate::Config;
-use fitting::Fitting;
 use p2p_base::{List, NoRoom, PublicKey};
 use p2p_flow::Channel;
 use p2p_flow_connection::Inbounds;
@@ -28,7 +26,7 @@ use p2p_flow_senders::channels::{Receiver, Sender};
 use p2p_flow_senders::{Channels, RegisterError, Way};
 use p2p_gates::{Config as GatesConfig, Dialer, Listener};
 use p2p_peer::spawner;
-use p2p_peer_shared::network as shared;
+use p2p_peer_shared::network::{self as shared, Fitting};
 use p2p_router::{self as router, Messenger};
 use p2p_runtime::Quota;
 use p2p_tracker::{self as tracker, Oracle};
@@ -45,7 +43,7 @@ pub struct Network<P: PublicKey> {
     pub way: Way<P, Messenger<P>>,
     /// What the receivers of the channels are lent.
     pub inbounds: Inbounds<P>,
-    cfg: Fitting<P>,
+    cfg: Fitting<Config<P>>,
     channels: Channels<P>,
     tracker: tracker::Actor<P>,
 }
@@ -284,7 +282,7 @@ fn close_unless<P: PublicKey>(bind: bool, tracker_way: &mut tracker::Mailbox<P>)
 }
 
 // The spawner of connections with these channels.
-fn spawner_of<P: PublicKey>(cfg: &Fitting<P>, channels: Channels<P>) -> spawner::Actor<P>
+fn spawner_of<P: PublicKey>(cfg: &Fitting<Config<P>>, channels: Channels<P>) -> spawner::Actor<P>
     ensures spawner { result ≡ new_spawner (connections_of cfg.now result.cfg.channels) }
     ensures channels { AreInOrder channels.quotas result.cfg.channels }
 {
