@@ -5,6 +5,8 @@ use Rattle.std.specs.BTreeMap.{is_at}
 use Rattle.std.specs.declared.cmp.Ordering.{Ordering}
 use Rattle.p2p_address.specs.declared.peer.Ingress.{Ingress}
 use Rattle.p2p_discovery.specs.GossipSize.{gossip_size}
+use Rattle.p2p_peer_shared.specs.Sizing.{sizes_fit}
+use Rattle.p2p_peer_shared.specs.declared.network.sizes.Sizes.{Sizes}
 use Rattle.p2p_discovery_peer.specs.declared.config.Config.{Config}
 
 module _ {P : Type 0} (cmp : P → P → Ordering) where
@@ -29,12 +31,17 @@ module _ {P : Type 0} (cmp : P → P → Ordering) where
   abbrev pub max_retained : Config P → ℕ
   max_retained c = c.max_peers_per_set * c.tracked_peer_sets + remote_count c.public_key c.bootstrappers
 
--- sizes and counts are 1 or more, and a link takes the messages
-abbrev pub sizes_fit : {P : Type 0} → Config P → Bool
-sizes_fit c =
-    ((nat_lt 0 c.max_peers_per_set && nat_lt 0 c.mailbox_size) && (nat_lt 0 c.tracked_peer_sets && nat_lt 0 c.send_batch_size))
-    && (nat_lt 0 c.max_concurrent_handshakes && nat_le c.max_message_size 16777200)
+-- its sizes and counts
+abbrev pub sizes_of : {P : Type 0} → Config P → Sizes
+sizes_of c = record {
+  max_peers_per_set = c.max_peers_per_set;
+  mailbox_size = c.mailbox_size;
+  tracked_peer_sets = c.tracked_peer_sets;
+  send_batch_size = c.send_batch_size;
+  max_concurrent_handshakes = c.max_concurrent_handshakes;
+  max_message_size = c.max_message_size;
+}
 
--- and a link takes what peers, whose keys have so many bytes, tell of each other, and the retained peers can be counted
+-- they fit, a link takes what peers, whose keys have so many bytes, tell of each other, and the retained peers can be counted
 abbrev pub fits : {P : Type 0} → ℕ → (P → P → Ordering) → Config P → Bool
-fits size cmp c = sizes_fit c && (nat_le (gossip_size size c.max_peers_per_set c.peer_gossip_max_count) 16777216 && nat_lt (max_retained cmp c) (2 ^ 64))
+fits size cmp c = sizes_fit (sizes_of c) && (nat_le (gossip_size size c.max_peers_per_set c.peer_gossip_max_count) 16777216 && nat_lt (max_retained cmp c) (2 ^ 64))

@@ -1,24 +1,11 @@
 //! The presets of a configuration.
-ghost use Rattle.std.specs.Prelude.{◌≡◌, ◌<◌};
-ghost use Rattle.p2p_runtime.specs.QuotaLaw.{rate_of};
+ghost use Rattle.std.specs.Prelude.{◌≡◌};
 ghost use Rattle.p2p_discovery_peer.specs.Presets.{recommended, local};
 
 use crate::config::{Bootstrapper, Config};
 use p2p_address::{Ingress, SocketAddr};
 use p2p_base::List;
-use p2p_runtime::Quota;
-
-// A quota of a preset.
-fn quota(burst: u32, period: u64) -> Quota
-    requires burst { 0 < burst }
-    requires period { 0 < period }
-    ensures { result ≡ rate_of burst period }
-{
-    let Some(quota) = Quota::new(burst, period) else {
-        unreachable!()
-    };
-    quota
-}
+use p2p_peer_shared::quota;
 
 impl<P> Config<P> {
     /// What is recommended where peers are anywhere: addresses that are not global are refused, and much is waited for.

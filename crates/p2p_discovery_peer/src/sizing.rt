@@ -1,16 +1,14 @@
 //! How large what a node keeps is, by its configuration.
 ghost use Rattle.std.specs.Prelude.{◌≡◌, ◌^◌, ◌<◌, ◌≤◌, length, nat_le, SomeIff};
 ghost use Rattle.p2p_discovery.specs.GossipSize.{gossip_size};
-ghost use Rattle.p2p_discovery_peer.specs.Sizing.{fits, sizes_fit, max_retained, remote_count, times_counted, is_met, recurs};
+ghost use Rattle.p2p_discovery_peer.specs.Sizing.{fits, max_retained, remote_count, times_counted, is_met, recurs};
 
 use crate::config::{Bootstrapper, Config};
 use p2p_base::PublicKey;
+use p2p_peer_shared::network::{HasSizes, Sizes};
 
 // The longest frame that a link takes, in bytes.
 const LINK_MAX: usize = 16_777_216;
-
-// The greatest `max_message_size` that a link takes, in bytes.
-const MESSAGE_MAX: u32 = 16_777_200;
 
 impl<P: PublicKey> Config<P> {
     /// Whether a node can be made of it: the sizes of peer sets, mailboxes and batches, how many sets are kept and how many handshakes run
@@ -20,7 +18,7 @@ impl<P: PublicKey> Config<P> {
     pub fn fits(&self) -> bool
         ensures { result ≡ fits P.SIZE P.cmp self.now }
     {
-        sizes_fit(self) && (self.gossip_fits() && self.max_retained_peers().is_some())
+        self.sizes().fit() && (self.gossip_fits() && self.max_retained_peers().is_some())
     }
 
     // Whether a link takes all that peers tell of each other.
@@ -45,14 +43,21 @@ impl<P: PublicKey> Config<P> {
     }
 }
 
-// Whether these sizes and counts are 1 or more, and a link takes each message.
-fn sizes_fit<P>(cfg: &Config<P>) -> bool
-    ensures { result ≡ sizes_fit cfg.now }
-{
-    cfg.max_peers_per_set > 0
-        && cfg.mailbox_size > 0
-        && (cfg.tracked_peer_sets > 0 && cfg.send_batch_size > 0)
-        && (cfg.max_concurrent_handshakes > 0 && cfg.max_message_size <= MESSAGE_MAX)
+impl<P> HasSizes for Config<P> {
+    ghost use Rattle.p2p_discovery_peer.specs.Sizing.{sizes_of};
+
+    ghost sizes = { λ c. sizes_of c };
+
+    fn sizes(&self) -> Sizes {
+        Sizes {
+            max_peers_per_set: self.max_peers_per_set,
+            mailbox_size: self.mailbox_size,
+            tracked_peer_sets: self.tracked_peer_sets,
+            send_batch_size: self.send_batch_size,
+            max_concurrent_handshakes: self.max_concurrent_handshakes,
+            max_message_size: self.max_message_size,
+        }
+    }
 }
 
 // How many of these there are, each once and the own peer left out.

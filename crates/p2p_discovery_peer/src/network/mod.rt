@@ -13,11 +13,9 @@ ghost use Rattle.p2p_peer_shared.specs.Opening.{refusal_in, router_places, can_o
 ghost use Rattle.p2p_router.specs.Messenger.{new_desk, subscribed};
 ghost use Rattle.p2p_router.specs.Routes.{new_routes};
 
-mod fitting;
 mod running;
 
 use crate::{Config, spawner};
-use fitting::Fitting;
 use p2p_base::{List, NoRoom, PublicKey};
 use p2p_discovery::Info;
 use p2p_discovery::types::InfoVerifier;
@@ -27,7 +25,7 @@ use p2p_flow::Channel;
 use p2p_flow_connection::Inbounds;
 use p2p_flow_senders::channels::{Receiver, Sender};
 use p2p_flow_senders::{Channels, RegisterError, Way};
-use p2p_peer_shared::network as shared;
+use p2p_peer_shared::network::{self as shared, Fitting};
 use p2p_router::{self as router, Messenger};
 use p2p_runtime::Quota;
 pub use running::Running;
@@ -43,7 +41,7 @@ pub struct Network<P: PublicKey, D> {
     pub way: Way<P, Messenger<P>>,
     /// What the receivers of the channels are lent.
     pub inbounds: Inbounds<P>,
-    cfg: Fitting<P>,
+    cfg: Fitting<Config<P>>,
     channels: Channels<P>,
     tracker: tracker::Actor<P, D>,
     infos: InfoVerifier<P>,
@@ -280,7 +278,7 @@ fn close_unless<P: PublicKey>(bind: bool, tracker_way: &mut tracker::Mailbox<P>)
 }
 
 // The spawner of connections with these channels.
-fn spawner_of<P: PublicKey>(cfg: &Fitting<P>, channels: Channels<P>) -> spawner::Actor<P>
+fn spawner_of<P: PublicKey>(cfg: &Fitting<Config<P>>, channels: Channels<P>) -> spawner::Actor<P>
     ensures spawner { result ≡ new_spawner (connections_of cfg.now result.cfg.channels) }
     ensures channels { AreInOrder channels.quotas result.cfg.channels }
 {
