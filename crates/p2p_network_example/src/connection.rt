@@ -1,10 +1,9 @@
 //! A connection of one node: how it is made, and the steps of its halves.
-ghost use Rattle.std.specs.Prelude.{◌≡◌, IfOk, OnOk};
-ghost use Rattle.p2p_network_example.specs.Asking.{IsIdle};
-ghost use Rattle.p2p_network_example.specs.Connecting.{IsWith, TellsNext, KeepsSenders};
+ghost use Rattle.std.specs.Prelude.{◌≡◌, OnOk};
+ghost use Rattle.p2p_network_example.specs.Connecting.{KeepsSenders};
 
 use crate::NAME;
-use crate::tracker::{serve, took_none};
+use crate::tracker::{none_waits, serve};
 use anyhow::{Result, bail};
 use p2p_base::{Key, Sent};
 use p2p_lookup::Running;
@@ -12,18 +11,10 @@ use p2p_peer::peer::{Actor, Stepped};
 use p2p_peer::spawner::{self, Mailbox as SpawnerMailbox, Stepped as Made};
 use p2p_router::Stepped as Routed;
 use p2p_runtime::MemoryLink;
-use p2p_tracker::{self as tracker, Mailbox, Reservation};
+use p2p_tracker::Reservation;
 use std::alloc::Global;
 
-/// A connection with a peer.
-#[derive(Drop)]
-pub struct Connection {
-    pub peer: Key,
-    pub actor: Actor<Key>,
-}
-
 /// Gives a reservation to the spawner, which makes the connection.
-#[tactic(auto, using(crate::proofs::Connected::spawned_with))]
 pub fn spawn(
     rt: &impl Print,
     alloc: Global,
@@ -31,13 +22,8 @@ pub fn spawn(
     spawner: &mut spawner::Actor<Key>,
     way: &mut SpawnerMailbox<Key>,
     reservation: Reservation<Key>,
-) -> Result<Connection>
-    ensures { IfOk result (λ c. IsWith c.peer c.actor) }
-{
+) -> Result<Actor<Key>> {
     let peer = *reservation.metadata().public_key();
-    if way.take().is_some() {
-        bail!("the spawner was asked");
-    }
     let Ok(Sent::Ok) = way.spawn(NAME, reservation) else {
         bail!("no room for a connection");
     };
@@ -45,7 +31,7 @@ pub fn spawn(
         bail!("the spawner has nothing to do");
     };
     println!(rt; "  node {key}: a connection with {peer} over link {connection}")?;
-    Ok(Connection { peer, actor })
+    Ok(actor)
 }
 
 /// Prints what a step of a half did.
@@ -73,51 +59,29 @@ fn show(rt: &impl Print, key: Key, stepped: &Stepped<Key>) -> Result<()> {
     Ok(())
 }
 
-/// Lets the tracker take what a step of a connection with this peer put, where it put something. It asks that the peer is reserved where the
-/// connection has begun, and that it is held where it has ended.
-#[tactic(auto, using(crate::proofs::Connected::may_begin, crate::proofs::Connected::may_end))]
-fn tell(
-    rt: &impl Print,
-    key: Key,
-    peer: &Key,
-    stepped: &Stepped<Key>,
-    tracker: &mut tracker::Actor<Key>,
-    way: &mut Mailbox<Key>,
-) -> Result<()>
-    requires { TellsNext peer.now stepped.now way.old }
+/// Lets the tracker take what a step of a connection put, where it put something: that it has begun, or its reservation, once it has ended.
+fn tell(rt: &impl Print, key: Key, stepped: &Stepped<Key>, running: &mut Running<Key>) -> Result<()>
+    ensures { running.new.way ≡ running.old.way }
 {
     match stepped {
-        Stepped::Started => {
-            if !tracker.may_connect(peer) {
-                bail!("the peer is not reserved");
-            }
-            serve(rt, key, tracker, way)
-        }
-        Stepped::Ended { .. } => {
-            if !tracker.may_release(peer) {
-                bail!("the peer is not held");
-            }
-            serve(rt, key, tracker, way)
+        Stepped::Started | Stepped::Ended { .. } => {
+            serve(rt, key, &mut running.tracker, &mut running.tracker_way)
         }
         _ => Ok(()),
     }
 }
 
 /// One step of the sending half.
-#[tactic(auto, using(crate::proofs::Connected::send_with, crate::proofs::Connected::step_tells, crate::proofs::Connected::senders_still, crate::proofs::Connected::step_keeps))]
+#[tactic(auto, using(crate::proofs::Connected::senders_still, crate::proofs::Connected::step_keeps))]
 fn send(
     alloc: Global,
-    connection: &mut Connection,
+    connection: &mut Actor<Key>,
     running: &mut Running<Key>,
     link: &mut MemoryLink,
 ) -> Result<Stepped<Key>>
-    requires with { IsWith connection.old.peer connection.old.actor }
-    requires idle { IsIdle running.old.tracker_way }
-    ensures with { OnOk result (IsWith connection.new.peer connection.new.actor) }
-    ensures tells { IfOk result (λ s. TellsNext connection.new.peer s running.new.tracker_way) }
-    ensures senders { OnOk result (KeepsSenders running.old.way running.new.way) }
+    ensures { OnOk result (KeepsSenders running.old.way running.new.way) }
 {
-    let stepped = connection.actor.send_step(
+    let stepped = connection.send_step(
         alloc,
         link,
         &mut running.router,
@@ -129,20 +93,16 @@ fn send(
 }
 
 /// One step of the receiving half.
-#[tactic(auto, using(crate::proofs::Connected::receive_with, crate::proofs::Connected::step_tells, crate::proofs::Connected::senders_still, crate::proofs::Connected::step_keeps))]
+#[tactic(auto, using(crate::proofs::Connected::senders_still, crate::proofs::Connected::step_keeps))]
 fn receive(
     alloc: Global,
-    connection: &mut Connection,
+    connection: &mut Actor<Key>,
     running: &mut Running<Key>,
     link: &mut MemoryLink,
 ) -> Result<Stepped<Key>>
-    requires with { IsWith connection.old.peer connection.old.actor }
-    requires idle { IsIdle running.old.tracker_way }
-    ensures with { OnOk result (IsWith connection.new.peer connection.new.actor) }
-    ensures tells { IfOk result (λ s. TellsNext connection.new.peer s running.new.tracker_way) }
-    ensures senders { OnOk result (KeepsSenders running.old.way running.new.way) }
+    ensures { OnOk result (KeepsSenders running.old.way running.new.way) }
 {
-    let stepped = connection.actor.recv_step(
+    let stepped = connection.recv_step(
         alloc,
         link,
         &mut running.inbounds,
@@ -159,21 +119,16 @@ pub fn send_step(
     rt: &impl Print,
     alloc: Global,
     key: Key,
-    connection: &mut Connection,
+    connection: &mut Actor<Key>,
     running: &mut Running<Key>,
     link: &mut MemoryLink,
 ) -> Result<()>
-    requires { IsWith connection.old.peer connection.old.actor }
-    ensures with { OnOk result (IsWith connection.new.peer connection.new.actor) }
-    ensures senders { OnOk result (KeepsSenders running.old.way running.new.way) }
+    ensures { OnOk result (KeepsSenders running.old.way running.new.way) }
 {
-    if !took_none(&mut running.tracker_way) {
-        bail!("the tracker was asked");
-    }
+    none_waits(&running.tracker_way)?;
     let stepped = send(alloc, connection, running, link)?;
     show(rt, key, &stepped)?;
-    let (tracker, way) = (&mut running.tracker, &mut running.tracker_way);
-    tell(rt, key, &connection.peer, &stepped, tracker, way)
+    tell(rt, key, &stepped, running)
 }
 
 /// One step of the receiving half at the moment 0, and one of the tracker, where it is told something.
@@ -181,21 +136,16 @@ pub fn recv_step(
     rt: &impl Print,
     alloc: Global,
     key: Key,
-    connection: &mut Connection,
+    connection: &mut Actor<Key>,
     running: &mut Running<Key>,
     link: &mut MemoryLink,
 ) -> Result<()>
-    requires { IsWith connection.old.peer connection.old.actor }
-    ensures with { OnOk result (IsWith connection.new.peer connection.new.actor) }
-    ensures senders { OnOk result (KeepsSenders running.old.way running.new.way) }
+    ensures { OnOk result (KeepsSenders running.old.way running.new.way) }
 {
-    if !took_none(&mut running.tracker_way) {
-        bail!("the tracker was asked");
-    }
+    none_waits(&running.tracker_way)?;
     let stepped = receive(alloc, connection, running, link)?;
     show(rt, key, &stepped)?;
-    let (tracker, way) = (&mut running.tracker, &mut running.tracker_way);
-    tell(rt, key, &connection.peer, &stepped, tracker, way)
+    tell(rt, key, &stepped, running)
 }
 
 /// One step of the router, and what it did.

@@ -1,21 +1,19 @@
 //! The gates: how the two nodes come to a link, and each to a reservation of the other.
 ghost use Rattle.std.specs.Prelude.{◌≡◌, ◌<◌, true, IfOk, OnOk};
 ghost use Rattle.p2p_gates.specs.ListenerTurns.{begins, is_admitted};
-ghost use Rattle.p2p_network_example.specs.Asking.{AsksBy, Came};
-ghost use Rattle.p2p_network_example.specs.Listening.{Stands};
 
 use crate::NAME;
 use crate::node::at;
-use crate::tracker::{serve, took_none};
+use crate::tracker::{none_waits, serve};
 use anyhow::{Result, bail};
 use p2p_base::Key;
-use p2p_gates::{Attempt, AttemptItem, Dialer, Handshake, Listener, Outcome, Put, Stepped};
+use p2p_gates::{Attempt, AttemptItem, Dialer, Handshake, Listener, Outcome, Stepped};
 use p2p_lookup::Running;
 use p2p_tracker::{Actor, Mailbox, Reservation};
 
-/// What came of a step of a gate, which is printed with what it asked the tracker. Nothing is given back here.
+/// What came of a step of a gate, which is printed with what it asked the tracker.
 fn came(rt: &impl Print, key: Key, who: &'static str, stepped: Stepped<Key>) -> Result<Outcome<Key>>
-    ensures { IfOk result (λ o. Came stepped o) }
+    ensures { IfOk result (λ o. begins stepped ≡ is_admitted o) }
 {
     match stepped {
         Stepped::Idle => bail!("nothing is ready"),
@@ -29,10 +27,6 @@ fn came(rt: &impl Print, key: Key, who: &'static str, stepped: Stepped<Key>) -> 
             Ok(outcome)
         }
         Stepped::Served {
-            put: Some(Put::Release { .. }),
-            ..
-        } => bail!("a reservation is given back"),
-        Stepped::Served {
             took,
             put: Some(put),
             outcome,
@@ -44,8 +38,8 @@ fn came(rt: &impl Print, key: Key, who: &'static str, stepped: Stepped<Key>) -> 
     }
 }
 
-/// One step of the dialer at the moment 0, and one of the tracker, which it asks.
-#[tactic(auto, using(crate::proofs::Asked::may_take_asked))]
+/// One step of the dialer at the moment 0, and one of the tracker, which it asks. The last argument of the dialer's draws the order in which
+/// it dials.
 fn dial_step(
     rt: &impl Print,
     key: Key,
@@ -53,22 +47,11 @@ fn dial_step(
     way: &mut Mailbox<Key>,
     dialer: &mut Dialer<Key>,
 ) -> Result<Outcome<Key>> {
-    if !took_none(way) {
-        bail!("the tracker was asked");
-    }
-    let stepped = ask_dialer(way, dialer)?;
+    none_waits(way)?;
+    let stepped = dialer.step(way, NAME, 0, 0)?;
     let outcome = came(rt, key, "dialer", stepped)?;
     serve(rt, key, tracker, way)?;
     Ok(outcome)
-}
-
-/// One step of the dialer. The last argument draws the order in which it dials.
-#[tactic(auto, using(crate::proofs::Asked::dialer_asks))]
-fn ask_dialer(way: &mut Mailbox<Key>, dialer: &mut Dialer<Key>) -> Result<Stepped<Key>>
-    ensures { IfOk result (λ s. AsksBy s way.old way.new) }
-{
-    let stepped = dialer.step(way, NAME, 0, 0)?;
-    Ok(stepped)
 }
 
 /// Lets the dialer ask whom to dial, ask for the one that is listed, and take the grant, which begins an attempt.
@@ -100,7 +83,6 @@ fn attempt_step(
 }
 
 /// One step of the listener at the moment 0, and one of the tracker, which it asks.
-#[tactic(auto, using(crate::proofs::Asked::may_take_asked))]
 fn listen_step(
     rt: &impl Print,
     key: Key,
@@ -108,36 +90,18 @@ fn listen_step(
     way: &mut Mailbox<Key>,
     listener: &mut Listener<Key>,
 ) -> Result<Outcome<Key>>
-    requires { Stands listener.old }
-    ensures stands { OnOk result (Stands listener.new) }
-    ensures placed { IfOk result (λ o. is_admitted o ≡ true → 0 < listener.new.places.held) }
+    ensures { IfOk result (λ o. is_admitted o ≡ true → 0 < listener.new.places.held) }
 {
-    if !took_none(way) {
-        bail!("the tracker was asked");
-    }
-    let stepped = ask_listener(way, listener)?;
+    none_waits(way)?;
+    let stepped = listener.step(way, NAME, 0)?;
     let outcome = came(rt, key, "listener", stepped)?;
     serve(rt, key, tracker, way)?;
     Ok(outcome)
 }
 
-/// One step of the listener.
-#[tactic(auto, using(crate::proofs::Asked::step_asks, crate::proofs::Asked::step_stands))]
-fn ask_listener(way: &mut Mailbox<Key>, listener: &mut Listener<Key>) -> Result<Stepped<Key>>
-    requires { Stands listener.old }
-    ensures asks { IfOk result (λ s. AsksBy s way.old way.new) }
-    ensures stands { OnOk result (Stands listener.new) }
-    ensures placed { IfOk result (λ s. begins s ≡ true → 0 < listener.new.places.held) }
-{
-    let stepped = listener.step(way, NAME, 0)?;
-    Ok(stepped)
-}
-
 /// Lets the listener hear from where peers may come, and take the arrival of the key 1 over the link: each gate lets it pass, and a
 /// handshake begins.
-#[tactic(auto, using(crate::proofs::Asked::still_stands))]
 fn listen(rt: &impl Print, key: Key, running: &mut Running<Key>) -> Result<Handshake<Key>>
-    requires { Stands running.old.listener }
     ensures placed { OnOk result (0 < running.new.listener.places.held) }
     ensures way { running.new.way ≡ running.old.way }
 {
@@ -152,7 +116,6 @@ fn listen(rt: &impl Print, key: Key, running: &mut Running<Key>) -> Result<Hands
 }
 
 /// One step of a handshake at the moment 0, and one of the tracker, which it asks.
-#[tactic(auto, using(crate::proofs::Asked::may_take_asked))]
 fn shake_step(
     rt: &impl Print,
     key: Key,
@@ -160,22 +123,11 @@ fn shake_step(
     way: &mut Mailbox<Key>,
     handshake: &mut Handshake<Key>,
 ) -> Result<Outcome<Key>> {
-    if !took_none(way) {
-        bail!("the tracker was asked");
-    }
-    let stepped = ask_handshake(way, handshake)?;
+    none_waits(way)?;
+    let stepped = handshake.step(way, 0)?;
     let outcome = came(rt, key, "handshake", stepped)?;
     serve(rt, key, tracker, way)?;
     Ok(outcome)
-}
-
-/// One step of a handshake.
-#[tactic(auto, using(crate::proofs::Asked::handshake_asks))]
-fn ask_handshake(way: &mut Mailbox<Key>, handshake: &mut Handshake<Key>) -> Result<Stepped<Key>>
-    ensures { IfOk result (λ s. AsksBy s way.old way.new) }
-{
-    let stepped = handshake.step(way, 0)?;
-    Ok(stepped)
 }
 
 /// The reservation with which an attempt or a handshake ended.
@@ -212,7 +164,6 @@ pub fn meet(
     first: &mut Running<Key>,
     second: &mut Running<Key>,
 ) -> Result<(Reservation<Key>, Reservation<Key>)>
-    requires { Stands second.old.listener }
     ensures first { first.new.way ≡ first.old.way }
     ensures second { second.new.way ≡ second.old.way }
 {

@@ -1,8 +1,6 @@
 //! A node: what it is made of, its start, and its channel.
-ghost use Rattle.std.specs.Prelude.{◌≡◌, length, IfOk, OnOk};
+ghost use Rattle.std.specs.Prelude.{◌≡◌, length, IfOk};
 ghost use Rattle.p2p_flow_senders.specs.Limits.{HasLimit};
-ghost use Rattle.p2p_network_example.specs.Asking.{key_cmp, IsIdle, MayServe};
-ghost use Rattle.p2p_network_example.specs.Listening.{Stands};
 
 use crate::{CHANNEL, SECOND};
 use anyhow::{Context, Result, bail};
@@ -38,9 +36,7 @@ pub fn at(host: u8, port: u16) -> SocketAddr {
 
 /// The node of a key, which listens at its port 3000. Its peer sets have two keys at most, its messages 1,024 bytes, and a mailbox holds four
 /// of them.
-fn network(alloc: Global, host: u8) -> Result<(Network<Key>, Oracle<Key>)>
-    ensures { IfOk result (λ r. IsIdle r.0.tracker_way) }
-{
+fn network(alloc: Global, host: u8) -> Result<(Network<Key>, Oracle<Key>)> {
     let key = Key(host as u64);
     let cfg = Config::local(key, List::empty(alloc), at(host, 3000), 2, 1024, 4);
     // `Network::new` asks for it.
@@ -66,8 +62,7 @@ fn register(
     key: Key,
     network: &mut Network<Key>,
 ) -> Result<(Sender<Key, Messenger<Key>>, Receiver<Key>)>
-    ensures serves { IfOk result (λ r. HasLimit (λ d. length d.lists) r.0 network.new.way) }
-    ensures tracker_way { network.new.tracker_way ≡ network.old.tracker_way }
+    ensures { IfOk result (λ r. HasLimit (λ d. length d.lists) r.0 network.new.way) }
 {
     let quota = Quota::with_period(SECOND).context("a second is not 0")?;
     let (sender, receiver) = network.register(alloc, CHANNEL, quota)?;
@@ -80,7 +75,6 @@ fn register(
 }
 
 /// Asks the tracker of a node for a peer set of both keys. It takes that by its next step.
-#[tactic(auto, using(crate::proofs::Asked::put_first))]
 fn track(
     rt: &impl Print,
     alloc: Global,
@@ -88,9 +82,7 @@ fn track(
     oracle: &mut Oracle<Key>,
     network: &mut Network<Key>,
 ) -> Result<()>
-    requires { IsIdle network.old.tracker_way }
-    ensures asked { OnOk result (MayServe key_cmp network.new.tracker_way) }
-    ensures way { network.new.way ≡ network.old.way }
+    ensures { network.new.way ≡ network.old.way }
 {
     let told = oracle.track(alloc, &mut network.tracker_way.desk, 0, both(alloc)?)?;
     println!(rt; "  node {key}: a set of both keys is asked for: {told:?}")?;
@@ -99,9 +91,7 @@ fn track(
 
 /// A node of a key, which has started at the moment 0, with its channel, and which asks its tracker for a peer set.
 pub fn start(rt: &impl Print, alloc: Global, host: u8, bind: bool) -> Result<Node>
-    ensures serves { IfOk result (λ n. HasLimit (λ d. length d.lists) n.sender n.running.way) }
-    ensures stands { IfOk result (λ n. Stands n.running.listener) }
-    ensures asked { IfOk result (λ n. MayServe key_cmp n.running.tracker_way) }
+    ensures { IfOk result (λ n. HasLimit (λ d. length d.lists) n.sender n.running.way) }
 {
     let key = Key(host as u64);
     let (mut network, mut oracle) = network(alloc, host)?;

@@ -1,10 +1,9 @@
 //! Two nodes that meet, of which the one says something to the other, and then ends.
 ghost use Rattle.std.specs.Prelude.{length, IfOk, OnOk};
 ghost use Rattle.p2p_flow_senders.specs.Limits.{HasLimit};
-ghost use Rattle.p2p_network_example.specs.Connecting.{IsWith, KeepsSenders};
-ghost use Rattle.p2p_network_example.specs.Listening.{Stands};
+ghost use Rattle.p2p_network_example.specs.Connecting.{KeepsSenders};
 
-use crate::connection::{Connection, recv_step, route, send_step, spawn};
+use crate::connection::{recv_step, route, send_step, spawn};
 use crate::gates::meet;
 use crate::node::{Node, close, hear, send, start};
 use crate::tracker::serve;
@@ -12,6 +11,7 @@ use crate::wire::Wire;
 use anyhow::Result;
 use p2p_base::Key;
 use p2p_lookup::Running;
+use p2p_peer::peer::Actor;
 use p2p_runtime::MemoryLink;
 use p2p_tracker::Reservation;
 use std::alloc::Global;
@@ -65,8 +65,7 @@ pub fn show(rt: &impl Print, alloc: Global) -> Result<()> {
 
 /// A node whose tracker has taken its peer set. It tells the listener from where peers may come: from the other node alone.
 fn begin(rt: &impl Print, alloc: Global, host: u8) -> Result<Node>
-    ensures serves { IfOk result (λ n. HasLimit (λ d. length d.lists) n.sender n.running.way) }
-    ensures stands { IfOk result (λ n. Stands n.running.listener) }
+    ensures { IfOk result (λ n. HasLimit (λ d. length d.lists) n.sender n.running.way) }
 {
     let mut node = start(rt, alloc, host, true)?;
     let (tracker, way) = (&mut node.running.tracker, &mut node.running.tracker_way);
@@ -83,9 +82,8 @@ fn connect(
     running: &mut Running<Key>,
     reservation: Reservation<Key>,
     link: &mut MemoryLink,
-) -> Result<Connection>
-    ensures with { IfOk result (λ c. IsWith c.peer c.actor) }
-    ensures senders { OnOk result (KeepsSenders running.old.way running.new.way) }
+) -> Result<Actor<Key>>
+    ensures { OnOk result (KeepsSenders running.old.way running.new.way) }
 {
     let (spawner, way) = (&mut running.spawner, &mut running.spawner_way);
     let mut connection = spawn(rt, alloc, key, spawner, way, reservation)?;
@@ -102,13 +100,11 @@ fn say(
     rt: &impl Print,
     alloc: Global,
     node: &mut Node,
-    connection: &mut Connection,
+    connection: &mut Actor<Key>,
     wire: &mut Wire,
 ) -> Result<()>
-    requires serves { HasLimit (λ d. length d.lists) node.old.sender node.old.running.way }
-    requires with { IsWith connection.old.peer connection.old.actor }
-    ensures serves { OnOk result (HasLimit (λ d. length d.lists) node.new.sender node.new.running.way) }
-    ensures with { OnOk result (IsWith connection.new.peer connection.new.actor) }
+    requires { HasLimit (λ d. length d.lists) node.old.sender node.old.running.way }
+    ensures { OnOk result (HasLimit (λ d. length d.lists) node.new.sender node.new.running.way) }
 {
     send(rt, alloc, node, 0)?;
     route(rt, Key(1), &mut node.running)?;
@@ -128,13 +124,12 @@ fn end(
     rt: &impl Print,
     alloc: Global,
     running: &mut Running<Key>,
-    connection: &mut Connection,
+    connection: &mut Actor<Key>,
     wire: &mut Wire,
 ) -> Result<()>
-    requires { IsWith connection.old.peer connection.old.actor }
     ensures { OnOk result (KeepsSenders running.old.way running.new.way) }
 {
-    let told = connection.actor.control().kill();
+    let told = connection.control().kill();
     println!(rt; "  node 1: a kill is put: {told:?}")?;
     send_step(rt, alloc, Key(1), connection, running, &mut wire.near)?;
     wire.part();

@@ -1,31 +1,29 @@
 //! The tracker: what it is asked, a message a step, and what it answers.
-ghost use Rattle.std.specs.Prelude.{◌≡◌, true};
-ghost use Rattle.p2p_network_example.specs.Asking.{key_cmp, IsIdle, MayTakeNext};
-
-use anyhow::Result;
+use anyhow::{Result, bail};
 use p2p_base::Key;
 use p2p_tracker::{Actor, Mailbox, Put, Stepped};
 
-/// Takes the oldest message that waits for the tracker and drops it, and says whether there was none.
-#[tactic(auto, using(crate::proofs::Asked::none_left))]
-pub fn took_none(way: &mut Mailbox<Key>) -> bool
-    ensures { result ≡ true → IsIdle way.new }
-{
-    way.take().is_none()
+/// That no message waits for the tracker, so that its next step takes what it is asked next.
+pub fn none_waits(way: &Mailbox<Key>) -> Result<()> {
+    if way.oldest().is_some() {
+        bail!("the tracker was asked");
+    }
+    Ok(())
 }
 
 /// One step of the tracker at the moment 0, and what it put. The last argument would draw how long a peer that was granted isn't listed again.
 ///
-/// A step asks for a condition where the oldest message tells that a connection has begun, or gives a peer back. Who put it knows that it is
-/// the oldest, and `may_connect` and `may_release` tell whether the condition holds.
+/// `may_step` is asked first: a step doesn't take that the connection of a peer has begun which isn't reserved, nor a peer back that isn't held.
 pub fn serve(
     rt: &impl Print,
     key: Key,
     tracker: &mut Actor<Key>,
     way: &mut Mailbox<Key>,
-) -> Result<()>
-    requires { MayTakeNext key_cmp tracker.old.directory way.old }
-{
+) -> Result<()> {
+    // `step` asks for it.
+    if !tracker.may_step(way) {
+        bail!("the tracker can't take what waits for it");
+    }
     match tracker.step(way, 0, 0)? {
         Stepped::Idle => Ok(()),
         Stepped::EndedBlocks { put } => tell(rt, key, put.as_slice()),
