@@ -4,6 +4,7 @@ use Rattle.std.specs.Prelude.{◌==◌, ◌||◌, not, flat_map}
 use Rattle.std.specs.List.{AllByRecursion as Each, list_any}
 use Rattle.std.proofs.lemmas.Bool.{and_parts, false≢true}
 use Rattle.std.proofs.lemmas.List.Folds.{list_any-append}
+use Rattle.std.proofs.lemmas.Option.{same_Some}
 use Rattle.p2p_base.specs.declared.key.Key.{Key}
 use Rattle.p2p_address.specs.declared.ip.SocketAddr.{SocketAddr}
 use Rattle.p2p_tracker_calls.specs.Gates.{Known}
@@ -22,12 +23,12 @@ use Rattle.p2p_log_rules.specs.declared.row.Row.{Row}
 use Rattle.p2p_log_rules.specs.Dropping.{LinkEnd, arriving_end, dropping, listener_step_row}
 use Rattle.p2p_log_rules.specs.Effect.{effect, row}
 use Rattle.p2p_log_rules.specs.Facts.{is_up, taken}
-use Rattle.p2p_log_rules.specs.Handshakes.{handshakes_of, is_handshaking, Peer, peer_of, peer_at}
+use Rattle.p2p_log_rules.specs.Handshakes.{Handshake, handshake_at, handshakes_of, is_handshaking}
 use Rattle.p2p_log_rules.specs.Listening.{known_of, gate_rules_at, arrived_row, arrival_turn, listener_turn, has_place, listener_row}
 use Rattle.p2p_log_rules.specs.Puts.{turns_away}
 use Rattle.p2p_log_rules.specs.Rows.{only}
 use Rattle.p2p_log_rules.proofs.Handshakes.{Begins, Ends, Stops, handshakes_now, is_among, among-without, handshaking_early}
-use Rattle.p2p_log_rules.proofs.TakenAt.{taken_at-longer, taken_at-last}
+use Rattle.p2p_log_rules.proofs.HandshakeBegun.{handshake_at-kept, handshake_at-begun}
 use Rattle.p2p_log_laws.proofs.Saying.{ComesFrom, Says, StandSays, first_says, PeersCome, comes_still}
 use Rattle.p2p_log_laws.proofs.Shape.{one_move}
 use Rattle.p2p_log_laws.proofs.Weighing.{taken_items}
@@ -120,29 +121,30 @@ module _ (configs : List Config) (log : List Entry) (ev : Event) (say : Each (St
   abbrev longer : List Entry
   longer = log ++ e ∷ []
 
-  abbrev Comes : ℕ → Peer → Type 0
+  abbrev Comes : ℕ → Handshake → Type 0
   Comes n p = ComesFrom configs longer n p.key p.link
 
   admits : (n : ℕ) → ev.act ≡ act.Listener n → Admits configs log n (row configs log ev.at ev.seed ev.act)
   unfolding row
   admits n acts = subst (λ a. Admits configs log n (row configs log ev.at ev.seed a)) (sym acts) (listener_admits configs log n ev.at)
 
-  begun : (n : ℕ) → IsAdmitted configs log n (row configs log ev.at ev.seed ev.act) → Comes n (peer_at longer (length log))
+  begun : (n : ℕ) (s : Handshake) → ev.act ≡ act.Listener n → e.reply ≡ reply.Gates gates.Admitted → IsAdmitted configs log n (row configs log ev.at ev.seed ev.act) → handshake_at longer (length log) ≡ Some s → Comes n s
   unfolding effect
-  begun n a =
+  begun n s acts told a is =
       let r : Row = row configs log ev.at ev.seed ev.act in
       let items : taken log e ≡ item.Arrival a.from a.key a.link ∷ [] =
       taken_items log ev r (one_move log (queue.Arrivals n) a.x a.rest a.first r a.takes a.ends) ∙ ap (λ i. i ∷ []) a.is
       in
       let says : Says configs log (queue.Arrivals n) (item.Arrival a.from a.key a.link) = subst (Says configs log (queue.Arrivals n)) a.is (first_says configs log (queue.Arrivals n) a.x a.rest say a.first) in
-      subst (Comes n) (sym (ap peer_of (taken_at-last log e ∙ items))) (comes_still configs log ev n a.key a.link says)
+      let began : Handshake = record { source = a.from.ip; key = a.key; link = a.link; at = ev.at } in
+      subst (Comes n) (same_Some began s (sym (handshake_at-begun log e n a.from a.key a.link [] acts told items) ∙ is)) (comes_still configs log ev n a.key a.link says)
 
   pub peers_come : PeersCome configs longer
   unfolding effect
-  peers_come n h runs = by (begun_or_before n h log e runs)
+  peers_come n h s runs is = by (begun_or_before n h log e runs)
     where
-      by : (is_handshaking log n h ≡ true) ⊎ ((h ≡ length log) × (ev.act ≡ act.Listener n) × (e.reply ≡ reply.Gates gates.Admitted)) → Comes n (peer_at longer h)
+      by : (is_handshaking log n h ≡ true) ⊎ ((h ≡ length log) × (ev.act ≡ act.Listener n) × (e.reply ≡ reply.Gates gates.Admitted)) → Comes n s
       by (inl before) =
-          let from = come n h before in
-          subst (Comes n) (sym (ap peer_of (taken_at-longer log (e ∷ []) h (handshaking_early log n h before)))) (comes_still configs log ev n (peer_at log h).key (peer_at log h).link from)
-      by (inr new) = subst (λ k. Comes n (peer_at longer k)) (sym new.0) (begun n (admits n new.1 new.2))
+          let from = come n h s before (sym (handshake_at-kept log e h (handshaking_early log n h before)) ∙ is) in
+          comes_still configs log ev n s.key s.link from
+      by (inr new) = begun n s new.1 new.2 (admits n new.1 new.2) (ap (handshake_at longer) (sym new.0) ∙ is)

@@ -52,7 +52,7 @@ pub record AreLed (configs : List Config) (log : List Entry) : Type 0 where
 
 led_first : (configs : List Config) → AreLed configs []
 unfolding live_from handshakes_of standing openings_of connections_of told state_from
-led_first configs = record { say = tt; come = λ n h runs. absurd (cc); opened = λ link o is. absurd (cc); connections = λ n conn c is. absurd (cc) }
+led_first configs = record { say = tt; come = λ n h s runs is. absurd (cc); opened = λ link o is. absurd (cc); connections = λ n conn c is. absurd (cc) }
 
 -- ---- the connections that an entry makes
 

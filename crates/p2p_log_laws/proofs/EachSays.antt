@@ -1,8 +1,8 @@
 -- What each act puts says of links what is true.
 use Rattle.std.proofs.Common.{◌≡◌, ℕ, Bool, true, false, cond, List, [], ◌∷◌, ◌++◌, map, take, Option, Some, None, ◌⊎◌, inl, inr, refl, ap, sym, subst, ◌∙◌, eq-eqb}
 use Rattle.std.specs.Prelude.{◌==◌, ◌&&◌, ◌||◌, not, nat_le, is_some}
-use Rattle.std.specs.List.{AllByRecursion as Each}
 use Rattle.std.specs.Option.{option_map}
+use Rattle.std.specs.List.{AllByRecursion as Each}
 use Rattle.std.proofs.lemmas.Bool.{and_parts, false≢true}
 use Rattle.std.proofs.lemmas.Option.{same_Some}
 use Rattle.p2p_base.specs.declared.key.Key.{Key}
@@ -18,7 +18,6 @@ use Rattle.p2p_tracker_calls.specs.Rules.{Rules}
 use Rattle.p2p_log.specs.declared.config.Config.{Config}
 use Rattle.p2p_log.specs.declared.queue.Queue.{Queue}
 use Rattle.p2p_log.specs.declared.queue.Queue.TheVariants as queue
-use Rattle.p2p_log.specs.declared.queue.Side.TheVariants as side
 use Rattle.p2p_log.specs.declared.item.Item.{Item}
 use Rattle.p2p_log.specs.declared.item.Item.TheVariants as item
 use Rattle.p2p_log.specs.declared.item.Envelope.{Envelope}
@@ -37,11 +36,11 @@ use Rattle.p2p_log_rules.specs.declared.row.ListeningEnd.{ListeningEnd}
 use Rattle.p2p_log_rules.specs.declared.row.ListeningEnd.TheVariants as listening
 use Rattle.p2p_log_rules.specs.declared.row.Row.{Row}
 use Rattle.p2p_log_rules.specs.Attempting.{Attempt, dial_rules_at, attempts_of, resolved, given_up_row, resolved_row, handed_on_row, link_of, attempt_took_row, attempt_turn, attempt_by, attempt_row, resolve_by, resolve_row, refuse_row, connect_row}
-use Rattle.p2p_log_rules.specs.Dropping.{dialing_end, attempt_step_row, handshake_step_row}
+use Rattle.p2p_log_rules.specs.Dropping.{dialing_end, attempt_step_row, handshake_step_row, listening_end}
 use Rattle.p2p_log_rules.specs.Puts.{gave_up, broke_off}
 use Rattle.p2p_log_rules.specs.Effect.{effect, row}
 use Rattle.p2p_log_rules.specs.Facts.{is_up, key_at}
-use Rattle.p2p_log_rules.specs.Handshakes.{is_handshaking, is_finished, source_at, peer_at}
+use Rattle.p2p_log_rules.specs.Handshakes.{Handshake, handshake_at, came_over, is_handshaking, is_finished, source_at}
 use Rattle.p2p_log_rules.specs.Handshaking.{handshake_deadline, handshake_took_row, is_due, handshake_turn, handshake_row}
 use Rattle.p2p_log_rules.specs.Cutting.{is_cut}
 use Rattle.p2p_log_rules.specs.Links.{openings_of, listening_ends_of, is_dialed, accepts_peer, exchanged, dialing_puts, listening_puts, finished_row, verdict, finish_by, finish_row}
@@ -49,7 +48,6 @@ use Rattle.p2p_log_rules.specs.Rows.{only, is_spawner_full}
 use Rattle.p2p_log_rules.specs.Tracking.{key_cmp, rules_at, asked_by, calls_of, update_subscriptions, blocked_subscriptions}
 use Rattle.p2p_log_rules.specs.TrackerPuts as puts
 use Rattle.p2p_log_rules.specs.TrackerRows as rows
-use Rattle.p2p_log_rules.proofs.Handshakes.{handshaking_early}
 use Rattle.p2p_log_laws.proofs.Reaching.{writes}
 use Rattle.p2p_log_laws.specs.Leading.{Links, LeadsTo}
 use Rattle.p2p_log_laws.specs.OneAnswer.{exchanges, is_for}
@@ -180,20 +178,22 @@ module _ (configs : List Config) (log : List Entry) where
 
     -- ---- the step of a handshake
 
-    module _ (come : PeersCome configs log) (h n : ℕ) (runs : is_handshaking log n h ≡ true) where
-      peer_leads : (key : Key) → IsPeer log h key → LeadsTo configs log n key (peer_at log h).link
-      peer_leads key is = let from = come n h runs in (from.0, inr from.1, sym is.1 ∙ from.2)
+    module _ (come : PeersCome configs log) (h n : ℕ) (runs : is_handshaking log n h ≡ true) (s : Handshake) (began : handshake_at log h ≡ Some s) where
+      peer_leads : (key : Key) → IsPeer log h key → LeadsTo configs log n key s.link
+      peer_leads key is =
+          let from = come n h s runs began in
+          (from.0, inr from.1, sym is.2 ∙ (ap (λ (p : Handshake). p.key) (same_Some is.0 s (sym is.1 ∙ began)) ∙ from.2))
 
-      heard_says : (full : Bool) (name : ℕ × ℕ) (i : Item) (left : List Envelope) → Says configs log (queue.Handshake n h) i → Each P (handshake_took_row n full h (peer_at log h) name i left).puts
+      heard_says : (full : Bool) (name : ℕ × ℕ) (i : Item) (left : List Envelope) → Says configs log (queue.Handshake n h) i → Each P (handshake_took_row n full h s name i left).puts
       heard_says full name (item.Acceptable true) left says = tt
       heard_says full name (item.Acceptable false) left says = tt
-      heard_says full name (item.Finished true) left says = ((handshaking_early log n h runs, refl), tt)
+      heard_says full name (item.Finished true) left says = ((s, began, refl), tt)
       heard_says full name (item.Finished false) left says = tt
-      heard_says full name (item.Listen (Some key)) left says = ready_says n full key (peer_at log h).link name left (peer_leads key says)
+      heard_says full name (item.Listen (Some key)) left says = ready_says n full key s.link name left (peer_leads key says)
       heard_says full name (item.Listen None) left says = tt
       heard_says full name _ left says = tt
 
-      turn_says : (full due : Bool) (xs : List Envelope) → line log (queue.Handshake n h) ≡ xs → Each P (handshake_turn n full due h (peer_at log h) xs).puts
+      turn_says : (full due : Bool) (xs : List Envelope) → line log (queue.Handshake n h) ≡ xs → Each P (handshake_turn n full due h (Some s) xs).puts
       turn_says full true [] first = tt
       turn_says full false [] first = tt
       turn_says full due (x ∷ rest) first = heard_says full (name_of x) x.item rest (first_says configs log (queue.Handshake n h) x rest say first)
@@ -201,11 +201,21 @@ module _ (configs : List Config) (log : List Entry) where
     handshake_says : PeersCome configs log → (h n : ℕ) → Each P (handshake_step_row configs log h n at).puts
     handshake_says come h n =
         let r : Row = handshake_row configs log h n at in
-        each_dropping P log (cond (broke_off r.reply (map (λ x. x.item) (take 1 (line log (queue.Handshake n h)))) r.puts) (Some ((peer_at log h).link, side.In)) None) r (by (is_handshaking log n h) refl)
+        each_dropping P log (cond (broke_off r.reply (map (λ x. x.item) (take 1 (line log (queue.Handshake n h)))) r.puts) (listening_end (came_over log h)) None) r (by (is_handshaking log n h) refl)
       where
         by : (b : Bool) → is_handshaking log n h ≡ b → Each P
-            (cond b (handshake_turn n (is_spawner_full configs log n) (is_due (handshake_deadline configs log h n) at (is_finished log n h)) h (peer_at log h) (line log (queue.Handshake n h))) (only reply.Gone)).puts
-        by true runs = turn_says come h n runs (is_spawner_full configs log n) (is_due (handshake_deadline configs log h n) at (is_finished log n h)) (line log (queue.Handshake n h)) refl
+            (cond b (handshake_turn n (is_spawner_full configs log n) (is_due (handshake_deadline configs log h n) at (is_finished log n h)) h (handshake_at log h) (line log (queue.Handshake n h))) (only reply.Gone)).puts
+        by true runs = begun (handshake_at log h) refl
+          where
+            full : Bool
+            full = is_spawner_full configs log n
+
+            due : Bool
+            due = is_due (handshake_deadline configs log h n) at (is_finished log n h)
+
+            begun : (o : Option Handshake) → handshake_at log h ≡ o → Each P (handshake_turn n full due h o (line log (queue.Handshake n h))).puts
+            begun None is = tt
+            begun (Some s) is = turn_says come h n runs s is full due (line log (queue.Handshake n h)) refl
         by false gone = tt
 
     -- ---- the step of an attempt

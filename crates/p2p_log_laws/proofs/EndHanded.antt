@@ -1,5 +1,5 @@
 -- Who hands a link to a spawner: an attempt that the link answered, or a handshake whose peer came over it, and either ends by that.
-use Rattle.std.proofs.Common.{◌≡◌, ℕ, suc, zero, Bool, true, false, cond, List, [], ◌∷◌, ◌++◌, length, Option, Some, None, ◌⊎◌, inl, inr, refl, ap, sym, subst, ◌∙◌, append-nil, eq-eqb}
+use Rattle.std.proofs.Common.{◌≡◌, ℕ, suc, zero, Bool, true, false, cond, List, [], ◌∷◌, ◌++◌, Option, Some, None, ◌⊎◌, inl, inr, refl, ap, sym, subst, ◌∙◌, append-nil, eq-eqb}
 use Rattle.std.specs.Prelude.{◌&&◌, ◌||◌, not, flat_map, map, nat_le, slice_get, take}
 use Rattle.std.specs.List.{list_any}
 use Rattle.std.proofs.lemmas.Bool.{false≢true}
@@ -8,12 +8,10 @@ use Rattle.p2p_base.specs.declared.key.Key.{Key}
 use Rattle.p2p_log.specs.declared.config.Config.{Config}
 use Rattle.p2p_log.specs.declared.queue.Queue.{Queue}
 use Rattle.p2p_log.specs.declared.queue.Queue.TheVariants as queue
-use Rattle.p2p_log.specs.declared.queue.Side.TheVariants as side
 use Rattle.p2p_log.specs.declared.item.Item.{Item}
 use Rattle.p2p_log.specs.declared.item.Item.TheVariants as item
 use Rattle.p2p_log.specs.declared.item.Envelope.{Envelope}
 use Rattle.p2p_log.specs.declared.entry.Entry.{Entry}
-use Rattle.p2p_log.specs.declared.entry.Reply.{Reply}
 use Rattle.p2p_log.specs.declared.entry.Reply.TheVariants as reply
 use Rattle.p2p_log.specs.declared.event.Event.{Event}
 use Rattle.p2p_log.specs.declared.event.Act.{Act}
@@ -25,12 +23,12 @@ use Rattle.p2p_log_rules.specs.declared.row.Row.{Row}
 use Rattle.p2p_log_rules.specs.Attempting.{Attempt, dial_rules_at, resolved, attempts_of, given_up_row, resolved_row, handed_on_row, link_of, attempt_took_row, attempt_turn, attempt_by, attempt_row}
 use Rattle.p2p_log_rules.proofs.Attempts.{attempt_told}
 use Rattle.p2p_log_rules.proofs.AttemptTellings.{attempts_of-stepped}
-use Rattle.p2p_log_rules.specs.Dropping.{LinkEnd, dropping, dialing_end, attempt_step_row, handshake_step_row}
+use Rattle.p2p_log_rules.specs.Dropping.{LinkEnd, dropping, dialing_end, attempt_step_row, handshake_step_row, listening_end}
 use Rattle.p2p_log_rules.specs.Puts.{is_spawn, gave_up, broke_off}
-use Rattle.p2p_log_rules.specs.Told.{took_tells}
+use Rattle.p2p_log_rules.specs.Told.{took_tells, link_over}
 use Rattle.p2p_log_rules.specs.Effect.{effect, row, entry_of}
 use Rattle.p2p_log_rules.specs.Facts.{item_named, taken}
-use Rattle.p2p_log_rules.specs.Handshakes.{handshakes_of, is_handshaking, is_finished, ends_handshake, Peer, peer_at}
+use Rattle.p2p_log_rules.specs.Handshakes.{Handshake, handshake_at, came_over, handshakes_of, is_handshaking, is_finished, ends_handshake}
 use Rattle.p2p_log_rules.specs.Handshaking as shaking
 use Rattle.p2p_log_rules.specs.Links.{openings_of}
 use Rattle.p2p_log_rules.specs.Rows.{only, is_spawner_full}
@@ -160,39 +158,40 @@ module _ (log : List Entry) (n : ℕ) where
               handing = record { place = g.place; node = g.node; key = g.key; is = g.is; ok = g.ok; word = g.word; items = g.items; such = g.such };
             }
 
-    abbrev peer : Peer
-    peer = peer_at log k
+    heard_hands : (peer : Handshake) (full : Bool) (name : ℕ × ℕ) (i : Item) (left : List Envelope) → item_named log name ≡ i ∷ [] → Hands IsListen m peer.link (shaking.handshake_took_row m full k peer name i left)
+    heard_hands peer full name (item.Acceptable true) left named = λ p i put. absurd (no_put p i put)
+    heard_hands peer full name (item.Acceptable false) left named = λ p i put. absurd (no_put p i put)
+    heard_hands peer full name (item.Finished true) left named = λ p i put. absurd (other_put (queue.Tracker m) (item.AskListen k peer.key) (λ e. cc) p i put)
+    heard_hands peer full name (item.Finished false) left named = λ p i put. absurd (no_put p i put)
+    heard_hands peer full name (item.Listen (Some key)) left named = ready_hands IsListen m peer.link full key name left (item.Listen (Some key)) named (key, refl)
+    heard_hands peer full name (item.Listen None) left named = λ p i put. absurd (no_put p i put)
+    heard_hands peer full name _ left named = λ p i put. absurd (no_put p i put)
 
-    heard_hands : (full : Bool) (name : ℕ × ℕ) (i : Item) (left : List Envelope) → item_named log name ≡ i ∷ [] → Hands IsListen m peer.link (shaking.handshake_took_row m full k peer name i left)
-    heard_hands full name (item.Acceptable true) left named = λ p i put. absurd (no_put p i put)
-    heard_hands full name (item.Acceptable false) left named = λ p i put. absurd (no_put p i put)
-    heard_hands full name (item.Finished true) left named = λ p i put. absurd (other_put (queue.Tracker m) (item.AskListen k peer.key) (λ e. cc) p i put)
-    heard_hands full name (item.Finished false) left named = λ p i put. absurd (no_put p i put)
-    heard_hands full name (item.Listen (Some key)) left named = ready_hands IsListen m peer.link full key name left (item.Listen (Some key)) named (key, refl)
-    heard_hands full name (item.Listen None) left named = λ p i put. absurd (no_put p i put)
-    heard_hands full name _ left named = λ p i put. absurd (no_put p i put)
-
-    shaken_hands : (full due : Bool) (xs : List Envelope) → line log (queue.Handshake m k) ≡ xs → Hands IsListen m peer.link (shaking.handshake_turn m full due k peer xs)
-    shaken_hands full true [] first = λ p i put. absurd (no_put p i put)
-    shaken_hands full false [] first = λ p i put. absurd (no_put p i put)
-    shaken_hands full due (x ∷ rest) first = heard_hands full (name_of x) x.item rest (item_named-first log (queue.Handshake m k) x rest first)
+    shaken_hands : (peer : Handshake) (full due : Bool) (xs : List Envelope) → line log (queue.Handshake m k) ≡ xs → Hands IsListen m peer.link (shaking.handshake_turn m full due k (Some peer) xs)
+    shaken_hands peer full true [] first = λ p i put. absurd (no_put p i put)
+    shaken_hands peer full false [] first = λ p i put. absurd (no_put p i put)
+    shaken_hands peer full due (x ∷ rest) first = heard_hands peer full (name_of x) x.item rest (item_named-first log (queue.Handshake m k) x rest first)
 
     -- a handshake that runs, over the link of its peer
     record HandshakeHanding (p : ℕ) (i : Item) (r : Row) : Type 0 where
       pub runs : is_handshaking log m k ≡ true
+      pub peer : Handshake
+      pub began : handshake_at log k ≡ Some peer
       pub handing : IsHanding IsListen m peer.link p i r
 
-    exchange_hands : (full due runs : Bool) → is_handshaking log m k ≡ runs → (p : ℕ) (i : Item)
-        → slice_get (cond runs (shaking.handshake_turn m full due k peer (line log (queue.Handshake m k))) (only reply.Gone)).puts p ≡ Some (queue.Spawner n, i)
-        → HandshakeHanding p i (cond runs (shaking.handshake_turn m full due k peer (line log (queue.Handshake m k))) (only reply.Gone))
-    exchange_hands full due true runs p i put = record { runs = runs; handing = shaken_hands full due (line log (queue.Handshake m k)) refl p i put }
-    exchange_hands full due false runs p i put = absurd (no_put p i put)
+    exchange_hands : (full due runs : Bool) → is_handshaking log m k ≡ runs → (o : Option Handshake) → handshake_at log k ≡ o → (p : ℕ) (i : Item)
+        → slice_get (cond runs (shaking.handshake_turn m full due k o (line log (queue.Handshake m k))) (only reply.Gone)).puts p ≡ Some (queue.Spawner n, i)
+        → HandshakeHanding p i (cond runs (shaking.handshake_turn m full due k o (line log (queue.Handshake m k))) (only reply.Gone))
+    exchange_hands full due true runs None began p i put = absurd (no_put p i put)
+    exchange_hands full due true runs (Some peer) began p i put =
+        record { runs = runs; peer = peer; began = began; handing = shaken_hands peer full due (line log (queue.Handshake m k)) refl p i put }
+    exchange_hands full due false runs o began p i put = absurd (no_put p i put)
 
     handshake_hands : (p : ℕ) (i : Item) → slice_get (handshake_step_row configs log k m at).puts p ≡ Some (queue.Spawner n, i) → HandshakeHanding p i (handshake_step_row configs log k m at)
     handshake_hands p i =
         let r = shaking.handshake_row configs log k m at in
-        by (cond (broke_off r.reply (map (λ x. x.item) (take 1 (line log (queue.Handshake m k)))) r.puts) (Some (peer.link, side.In)) None) r
-        (exchange_hands (is_spawner_full configs log m) (shaking.is_due (shaking.handshake_deadline configs log k m) at (is_finished log m k)) (is_handshaking log m k) refl p i)
+        by (cond (broke_off r.reply (map (λ x. x.item) (take 1 (line log (queue.Handshake m k)))) r.puts) (listening_end (came_over log k)) None) r
+        (exchange_hands (is_spawner_full configs log m) (shaking.is_due (shaking.handshake_deadline configs log k m) at (is_finished log m k)) (is_handshaking log m k) refl (handshake_at log k) refl p i)
       where
         by : (o : Option LinkEnd) (r : Row) → (slice_get r.puts p ≡ Some (queue.Spawner n, i) → HandshakeHanding p i r) → slice_get (dropping log o r).puts p ≡ Some (queue.Spawner n, i)
             → HandshakeHanding p i (dropping log o r)
@@ -200,7 +199,7 @@ module _ (log : List Entry) (n : ℕ) where
         by (Some e) r h put =
             let k = h put in
             let g = k.handing in
-            record { runs = k.runs; handing = record { place = g.place; node = g.node; key = g.key; is = g.is; ok = g.ok; word = g.word; items = g.items; such = g.such } }
+            record { runs = k.runs; peer = k.peer; began = k.began; handing = record { place = g.place; node = g.node; key = g.key; is = g.is; ok = g.ok; word = g.word; items = g.items; such = g.such } }
 
 -- ---- so it ends
 
@@ -238,7 +237,7 @@ pub record IsHeardOn (log : List Entry) (n link : ℕ) (e : Entry) : Type 0 wher
   pub handshake : ℕ
   pub acts : e.event.act ≡ act.Handshake handshake n
   pub runs : is_handshaking log n handshake ≡ true
-  pub came : (peer_at log handshake).link ≡ link
+  pub came : came_over log handshake ≡ Some link
   pub gone : is_handshaking (log ++ e ∷ []) n handshake ≡ false
 
 -- the entry puts this for the spawner of the node: that a connection is to be made over a link
@@ -285,13 +284,13 @@ module _ (configs : List Config) (log : List Entry) (ev : Event) (n : ℕ) where
       record {
         place = g.place;
         key = g.key;
-        link = (peer_at log k).link;
+        link = h.peer.link;
         is = g.is;
         by = inr (record {
           handshake = k;
           acts = here;
           runs = subst (λ j. is_handshaking log j k ≡ true) g.node h.runs;
-          came = refl;
+          came = ap link_over (subst (λ j. handshake_at log k ≡ Some h.peer) g.node h.began);
           gone =
               handshake_ends log (entry_of ev r) n k g.such.0 here g.ok (g.items ∙ ap (λ w. w ∷ []) g.such.1);
         });

@@ -20,13 +20,13 @@ use Rattle.p2p_log.proofs.Sending.{get_longer}
 use Rattle.p2p_log_rules.specs.Attempting.{Attempt, attempts_of, link_of}
 use Rattle.p2p_log_rules.specs.Effect.{effect}
 use Rattle.p2p_log_rules.specs.Facts.{key_at}
-use Rattle.p2p_log_rules.specs.Handshakes.{is_handshaking, peer_of, peer_at}
+use Rattle.p2p_log_rules.specs.Handshakes.{came_over, is_handshaking}
 use Rattle.p2p_log_rules.specs.Lawful.{IsLawful}
 use Rattle.p2p_log_rules.specs.Spawning.{Spawned, connections_of}
 use Rattle.p2p_log_rules.proofs.AttemptTellings.{attempts_of-late}
 use Rattle.p2p_log_rules.proofs.Handshakes.{handshaking_early}
 use Rattle.p2p_log_rules.proofs.Moves.{one_taken}
-use Rattle.p2p_log_rules.proofs.TakenAt.{taken_at-longer}
+use Rattle.p2p_log_rules.proofs.HandshakeBegun.{came_over-longer}
 use Rattle.p2p_log_laws.specs.Leading.{Links, LeadsTo}
 use Rattle.p2p_log_laws.specs.Leaving.{IsTakenFrom}
 use Rattle.p2p_log_laws.proofs.ConnectionPeers.{connections_lead}
@@ -168,16 +168,13 @@ module _ (configs : List Config) (script : List Event) (log : List Entry) (lawfu
     pub name : name_of arrival ≡ (link, 1)
     pub of : IsLinkOf n link
 
-  heard : (n h s : ℕ) → is_handshaking (take s log) n h ≡ true → IsHeard n h (peer_at (take s log) h).link
-  heard n h s runs =
+  heard : (n h s link : ℕ) → is_handshaking (take s log) n h ≡ true → came_over (take s log) h ≡ Some link → IsHeard n h link
+  heard n h s link runs came =
       let before = lawful_before configs script log lawful s in
       let early = are_arrived configs before.0 (take s log) before.1 n h runs in
-      let link : ℕ = (peer_at (take s log) h).link in
       let a : IsArrived log n h = subst (λ l. IsArrived l n h) (take-append-drop s log) (arrived_longer (take s log) (drop s log) n h early) in
-      let peers : peer_at log h ≡ peer_at (take s log) h =
-      ap (λ l. peer_at l h) (sym (take-append-drop s log)) ∙ ap peer_of (taken_at-longer (take s log) (drop s log) h (handshaking_early (take s log) n h runs))
-      in
-      let is : a.from.item ≡ item.Arrival a.address a.key link = a.is ∙ ap (λ p. item.Arrival a.address a.key p.link) peers in
+      let over : came_over log h ≡ Some link = ap (λ l. came_over l h) (sym (take-append-drop s log)) ∙ came_over-longer (take s log) (drop s log) h link came in
+      let is : a.from.item ≡ item.Arrival a.address a.key link = a.is ∙ ap (item.Arrival a.address a.key) (same_Some a.link link (sym a.came ∙ over)) in
       let p = first_put log h (queue.Arrivals n) a.from a.rest a.first in
       let k = put_arrival n a.from.entry a.from.place p.entry a.address a.key link p.at (p.put ∙ ap (λ i. Some (queue.Arrivals n, i)) is) in
       record {
@@ -262,8 +259,8 @@ module _ (configs : List Config) (script : List Event) (log : List Entry) (lawfu
 
     both_heard : IsHeardOn (take s log) n link e → IsHeardOn (take t log) n link f → s ≡ t
     both_heard d g =
-        let first : IsHeard n d.handshake link = subst (IsHeard n d.handshake) d.came (heard n d.handshake s d.runs) in
-        let second : IsHeard n g.handshake link = subst (IsHeard n g.handshake) g.came (heard n g.handshake t g.runs) in
+        let first : IsHeard n d.handshake link = heard n d.handshake s link d.runs d.came in
+        let second : IsHeard n g.handshake link = heard n g.handshake t link g.runs g.came in
         let same : d.handshake ≡ g.handshake =
         taken_once configs script log lawful (queue.Arrivals n) first.arrival second.arrival d.handshake g.handshake first.taken second.taken (first.name ∙ sym second.name)
         in
@@ -275,7 +272,7 @@ module _ (configs : List Config) (script : List Event) (log : List Entry) (lawfu
     both_ways : (key : Key) → LeadsTo configs log n key link → IsDialedOn configs (take s log) n link e → IsHeardOn (take t log) n link f → key ≡ key_at configs n
     both_ways key leads d g =
         let dial = answered n d.attempt s link d.a d.stood d.answered later in
-        let of : IsLinkOf n link = (subst (IsHeard n g.handshake) g.came (heard n g.handshake t g.runs)).of in
+        let of : IsLinkOf n link = (heard n g.handshake t link g.runs g.came).of in
         let entries : of.entry ≡ dial.0 = same_Some of.entry dial.0 (sym of.at ∙ dial.1) in
         let own : of.node ≡ n = dialer n d.attempt of.attempt of.address of.node (subst (λ a. answers_attempt n d.attempt a ≡ true) (sym (ap (λ (x : Entry). x.event.act) entries) ∙ of.acts) dial.2) in
         by of own leads

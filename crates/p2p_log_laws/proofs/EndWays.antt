@@ -31,12 +31,12 @@ use Rattle.p2p_log_rules.specs.declared.row.Row.{Row}
 use Rattle.p2p_log_rules.specs.Attempting.{Attempt, DialRules, dial_rules_at, answers_dial, attempt_since, attempt_by_last, attempts_of, connect_row}
 use Rattle.p2p_log_rules.specs.Effect.{effect, row}
 use Rattle.p2p_log_rules.specs.Facts.{item_named, key_at, taken, state_from}
-use Rattle.p2p_log_rules.specs.Handshakes.{handshakes_of, is_handshaking, peer_of, peer_at}
+use Rattle.p2p_log_rules.specs.Handshakes.{came_over, is_handshaking}
 use Rattle.p2p_log_rules.specs.Lawful.{IsLawful}
 use Rattle.p2p_log_rules.specs.Links.{openings_of}
 use Rattle.p2p_log_rules.specs.Tellings.{Telling, Last, or_last, last_told, last_or}
 use Rattle.p2p_log_rules.specs.Tellings as telling
-use Rattle.p2p_log_rules.specs.Told.{Begun, begun_as, ends, act_tells, tells, told}
+use Rattle.p2p_log_rules.specs.Told.{Begun, begun_as, ends, act_tells, tells, told, link_over}
 use Rattle.p2p_log_rules.proofs.TellingKinds as kind
 use Rattle.p2p_log_rules.proofs.Families.{telling_kind, has, untold_act}
 use Rattle.p2p_log_rules.proofs.Ignoring.{by_entries}
@@ -44,7 +44,7 @@ use Rattle.p2p_log_rules.proofs.Tellings.{told-append}
 use Rattle.p2p_log_rules.proofs.Told.{quiet_act}
 use Rattle.p2p_log_rules.proofs.Handshakes.{handshaking_early}
 use Rattle.p2p_log_rules.proofs.Recorded.{item_named-first}
-use Rattle.p2p_log_rules.proofs.TakenAt.{taken_at-longer, taken_at-last}
+use Rattle.p2p_log_rules.proofs.HandshakeBegun.{came_over-longer, handshake_at-begun}
 use Rattle.p2p_log_rules.proofs.Touches.{in_ends}
 use Rattle.p2p_log_laws.proofs.Admitting.{Admits, listener_admits, IsBegun, begun_or_before as begun_now}
 use Rattle.p2p_log_laws.proofs.EndMade.{in_list, take_whole}
@@ -280,7 +280,9 @@ pub record IsArrived (log : List Entry) (n h : ℕ) : Type 0 where
   pub takes : entry.takes ≡ name_of from ∷ []
   pub address : SocketAddr
   pub key : Key
-  pub is : from.item ≡ item.Arrival address key (peer_at log h).link
+  pub link : ℕ
+  pub came : came_over log h ≡ Some link
+  pub is : from.item ≡ item.Arrival address key link
 
 pub arrived_longer : (log more : List Entry) (n h : ℕ) → IsArrived log n h → IsArrived (log ++ more) n h
 arrived_longer log more n h a =
@@ -294,7 +296,9 @@ arrived_longer log more n h a =
       takes = a.takes;
       address = a.address;
       key = a.key;
-      is = a.is ∙ ap (λ items. item.Arrival a.address a.key (peer_of items).link) (sym (taken_at-longer log more h early));
+      link = a.link;
+      came = came_over-longer log more h a.link a.came;
+      is = a.is;
     }
 
 module _ (configs : List Config) where
@@ -326,7 +330,9 @@ module _ (configs : List Config) where
           takes = a.takes;
           address = a.from;
           key = a.key;
-          is = a.is ∙ ap (λ is. item.Arrival a.from a.key (peer_of is).link) (sym (taken_at-last log e ∙ one));
+          link = a.link;
+          came = ap link_over (handshake_at-begun log e n a.from a.key a.link [] acts says one);
+          is = a.is;
         }
       where
         items : (x : Envelope) (rest : List Envelope) → line log (queue.Arrivals n) ≡ x ∷ rest → (row configs log ev.at ev.seed ev.act).takes ≡ name_of x ∷ [] → taken log (effect configs log ev) ≡ x.item ∷ []

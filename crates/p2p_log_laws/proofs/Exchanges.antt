@@ -1,8 +1,9 @@
 -- An exchange of keys that ended does not begin anew.
-use Rattle.std.proofs.Common.{◌≡◌, ℕ, suc, ◌+◌, ◌≤◌, Bool, true, false, cond, List, [], ◌∷◌, ◌++◌, length, Option, Some, None, refl, ap, sym, subst, ◌∙◌, arith, eq-eqb, eqb-true, length-append}
-use Rattle.std.specs.Prelude.{◌==◌, ◌&&◌, ◌||◌, nat_lt}
+use Rattle.std.proofs.Common.{◌≡◌, ℕ, suc, ◌+◌, ◌≤◌, Bool, true, false, cond, List, [], ◌∷◌, ◌++◌, length, Option, Some, None, refl, ap, sym, ◌∙◌, arith, eq-eqb, eqb-true, length-append}
+use Rattle.std.specs.Prelude.{◌==◌, ◌||◌, nat_lt}
 use Rattle.std.proofs.lemmas.Bool.{and_parts, false≢true}
 use Rattle.std.proofs.lemmas.Bool.Decides.{nat_tests}
+use Rattle.std.proofs.lemmas.Option.{same_Some}
 use Rattle.p2p_log.specs.declared.entry.Entry.{Entry}
 use Rattle.p2p_log.specs.declared.entry.Reply.{Reply}
 use Rattle.p2p_log.specs.declared.entry.Reply.TheVariants as reply
@@ -12,13 +13,13 @@ use Rattle.p2p_log_rules.specs.declared.row.Opening.{Opening}
 use Rattle.p2p_log_rules.specs.declared.row.ListeningEnd.{ListeningEnd}
 use Rattle.p2p_log_rules.specs.declared.row.ListeningEnd.TheVariants as listening
 use Rattle.p2p_log_rules.specs.Facts.{state_from}
-use Rattle.p2p_log_rules.specs.Handshakes.{is_handshaking, peer_of, peer_at}
+use Rattle.p2p_log_rules.specs.Handshakes.{came_over, is_handshaking}
 use Rattle.p2p_log_rules.specs.Links.{openings_of, listening_ends_of}
 use Rattle.p2p_log_rules.proofs.Facts.{state_from-append}
 use Rattle.p2p_log_rules.proofs.HandshakeEnds.{ends_lead}
 use Rattle.p2p_log_rules.proofs.Handshakes.{handshaking_early}
 use Rattle.p2p_log_rules.proofs.Links.{openings_of-finished, openings_of-late, openings_of-closed}
-use Rattle.p2p_log_rules.proofs.TakenAt.{taken_at-longer}
+use Rattle.p2p_log_rules.proofs.HandshakeBegun.{came_over-longer}
 use Rattle.p2p_log_laws.specs.OneAnswer.{is_end_of, leads_to, ends_exchange, ended_by, has_ended}
 
 module _ (n name : ℕ) where
@@ -28,9 +29,10 @@ module _ (n name : ℕ) where
 
   -- its link has ended for good
   pub record IsOver (log : List Entry) : Type 0 where
-    pub named : suc name ≤ length log
-    pub linked : suc (peer_at log name).link ≤ length log
-    pub closed : openings_of log (peer_at log name).link ≡ None
+    pub link : ℕ
+    pub came : came_over log name ≡ Some link
+    pub linked : suc link ≤ length log
+    pub closed : openings_of log link ≡ None
 
   abbrev pub Over : List Entry → Type 0
   Over log = has_ended n name log ≡ true → IsOver log
@@ -42,7 +44,7 @@ module _ (n name : ℕ) where
   -- a link that leads to it is open, and the handshake came over it
   pub record Ending (log : List Entry) (link : ℕ) : Type 0 where
     pub runs : is_handshaking log n name ≡ true
-    pub over : (peer_at log name).link ≡ link
+    pub over : came_over log name ≡ Some link
     pub early : suc link ≤ length log
 
   pub ending_link : (log : List Entry) (link : ℕ) (p : Option Opening) → openings_of log link ≡ p → leads_to n name log link p ≡ true → Ending log link
@@ -78,17 +80,8 @@ module _ (n name : ℕ) where
       longer : length (log ++ e ∷ []) ≡ length log + 1
       longer = length-append log (e ∷ [])
 
-      same_link : suc name ≤ length log → (peer_at (log ++ e ∷ []) name).link ≡ (peer_at log name).link
-      same_link named = ap (λ items. (peer_of items).link) (taken_at-longer log (e ∷ []) name named)
-
-      stays : suc name ≤ length log → (link : ℕ) → (peer_at log name).link ≡ link → suc link ≤ length log → openings_of (log ++ e ∷ []) link ≡ None → IsOver (log ++ e ∷ [])
-      stays named link is linked closed =
-          let now : (peer_at (log ++ e ∷ []) name).link ≡ link = same_link named ∙ is in
-          record {
-            named = omega (arith, named, longer);
-            linked = subst (λ l. suc l ≤ length (log ++ e ∷ [])) (sym now) (omega (arith, linked, longer));
-            closed = ap (openings_of (log ++ e ∷ [])) now ∙ closed;
-          }
+      stays : (link : ℕ) → came_over log name ≡ Some link → suc link ≤ length log → openings_of (log ++ e ∷ []) link ≡ None → IsOver (log ++ e ∷ [])
+      stays link is linked closed = record { link = link; came = came_over-longer log (e ∷ []) name link is; linked = omega (arith, linked, longer); closed = closed }
 
       before_it : (a b : ℕ) → suc a ≤ b → (a == b) ≡ false
       before_it a b h = grind (arith, nat_tests)
@@ -96,7 +89,7 @@ module _ (n name : ℕ) where
       ends_now : (a : Act) (r : Reply) → e.event.act ≡ a → e.reply ≡ r → ends_exchange n name log a r ≡ true → IsOver (log ++ e ∷ [])
       ends_now (act.Finish link ok) reply.Ok acts replies so =
           let ending : Ending log link = ending_link log link (openings_of log link) refl so in
-          stays (handshaking_early log n name ending.runs) link ending.over ending.early
+          stays link ending.over ending.early
           (openings_of-finished log e link ok acts replies link ∙ ap (λ b. cond b None (openings_of log link)) (eq-eqb link link refl))
       ends_now _ _ acts replies so = cc
 
@@ -104,8 +97,7 @@ module _ (n name : ℕ) where
       by true now so = ends_now e.event.act e.reply refl refl now
       by false none so =
           let old = over so in
-          stays old.named (peer_at log name).link refl old.linked
-          (openings_of-closed log e (peer_at log name).link (before_it (peer_at log name).link (length log) old.linked) old.closed)
+          stays old.link old.came old.linked (openings_of-closed log e old.link (before_it old.link (length log) old.linked) old.closed)
 
   -- it does not end twice
   pub ends_once : (log : List Entry) → Over log → (a : Act) (r : Reply) → ends_exchange n name log a r ≡ true → has_ended n name log ≡ false
@@ -115,7 +107,8 @@ module _ (n name : ℕ) where
       by false is = is
       by true is =
           let ending : Ending log link = ending_link log link (openings_of log link) refl so in
-          let none : openings_of log link ≡ None = ap (openings_of log) (sym ending.over) ∙ (over is).closed in
+          let old = over is in
+          let none : openings_of log link ≡ None = ap (openings_of log) (same_Some link old.link (sym ending.over ∙ old.came)) ∙ old.closed in
           let never : false ≡ true = sym (ap (leads_to n name log link) none) ∙ so in
           absurd (false≢true never)
   ends_once log over _ _ so = cc

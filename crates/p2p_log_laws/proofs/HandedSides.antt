@@ -1,8 +1,8 @@
 -- Over a link that is handed on with a reservation, who dialed: of an attempt its node, and of a handshake another.
 use Rattle.std.proofs.Common.{◌≡◌, ℕ, ◌+◌, Bool, true, false, cond, List, [], ◌∷◌, Some, refl, ap, sym, subst, ◌∙◌, arith, eq-eqb, eqb-true}
 use Rattle.std.specs.Prelude.{◌==◌, ◌&&◌, filter, sum_by}
-use Rattle.std.specs.List.{AllByRecursion as Each}
 use Rattle.std.proofs.lemmas.Bool.{false≢true}
+use Rattle.std.proofs.lemmas.Option.{same_Some}
 use Rattle.p2p_base.specs.declared.key.Key.{Key}
 use Rattle.p2p_tracker_calls.specs.Blocks.{is_local}
 use Rattle.p2p_tracker_calls.specs.Grants as calls
@@ -18,7 +18,7 @@ use Rattle.p2p_log.proofs.Taken.{sum_by-first}
 use Rattle.p2p_log_rules.specs.Attempting.{Attempt, attempts_of, link_of}
 use Rattle.p2p_log_rules.specs.Dialed.{dialer_of}
 use Rattle.p2p_log_rules.specs.Facts.{key_at}
-use Rattle.p2p_log_rules.specs.Handshakes.{is_handshaking, Peer, peer_at}
+use Rattle.p2p_log_rules.specs.Handshakes.{Handshake, handshake_at, is_handshaking}
 use Rattle.p2p_log_rules.specs.Lawful.{IsLawful}
 use Rattle.p2p_log_rules.specs.Tracking.{key_cmp, rules_at, calls_of}
 use Rattle.p2p_log_rules.proofs.Moves.{one_taken}
@@ -40,8 +40,8 @@ AttemptDialed configs log n k =
 -- another node dialed the link of a handshake that is told that its peer is reserved
 abbrev pub HandshakeDialed : List Entry → ℕ → ℕ → Type 0
 HandshakeDialed log n h =
-    (key : Key) (z : Envelope) (zs : List Envelope) → is_handshaking log n h ≡ true → line log (queue.Handshake n h) ≡ z ∷ zs → z.item ≡ item.Listen (Some key)
-    → (m : ℕ) × (dialer_of log (peer_at log h).link ≡ Some m) × ((m == n) ≡ false)
+    (s : Handshake) (key : Key) (z : Envelope) (zs : List Envelope) → is_handshaking log n h ≡ true → handshake_at log h ≡ Some s
+    → line log (queue.Handshake n h) ≡ z ∷ zs → z.item ≡ item.Listen (Some key) → (m : ℕ) × (dialer_of log s.link ≡ Some m) × ((m == n) ≡ false)
 
 module _ (configs : List Config) (script : List Event) (log : List Entry) (lawful : IsLawful configs script log) (n : ℕ) where
   led : AreLed configs log
@@ -93,10 +93,11 @@ module _ (configs : List Config) (script : List Event) (log : List Entry) (lawfu
         ∙ (ap (λ (k : Key). is_local key_cmp (rules_at configs n) k) own ∙ own_key configs n))
 
   pub handshake_dialed : (h : ℕ) → HandshakeDialed log n h
-  handshake_dialed h key z zs runs first is =
+  handshake_dialed h s key z zs runs began first is =
       let says : IsPeer log h key = subst (Says configs log (queue.Handshake n h)) is (first_says configs log (queue.Handshake n h) z zs led.say first) in
-      let from : ComesFrom configs log n (peer_at log h).key (peer_at log h).link = led.come n h runs in
-      (from.0, links_dialer log (peer_at log h).link from.0 n from.1, by from.0 (from.0 == n) refl (sym says.1 ∙ from.2))
+      let from : ComesFrom configs log n s.key s.link = led.come n h s runs began in
+      let peer : key ≡ s.key = sym says.2 ∙ ap (λ (p : Handshake). p.key) (same_Some says.0 s (sym says.1 ∙ began)) in
+      (from.0, links_dialer log s.link from.0 n from.1, by from.0 (from.0 == n) refl (peer ∙ from.2))
     where
       by : (m : ℕ) (b : Bool) → (m == n) ≡ b → key ≡ key_at configs m → b ≡ false
       by m false is_other own = refl

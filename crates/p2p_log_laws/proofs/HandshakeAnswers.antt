@@ -1,5 +1,5 @@
 -- What a handshake's step puts for it: no more than it takes.
-use Rattle.std.proofs.Common.{◌≡◌, ℕ, ◌+◌, ◌≤◌, Bool, true, false, cond, List, [], ◌∷◌, map, take, Some, None, inl, refl, ap, sym, subst, ◌∙◌, arith, eq-eqb, eqb-true}
+use Rattle.std.proofs.Common.{◌≡◌, ℕ, ◌+◌, ◌≤◌, Bool, true, false, cond, List, [], ◌∷◌, map, take, Some, None, inl, refl, ap, sym, subst, ◌∙◌, arith, eqb-true, Option}
 use Rattle.std.specs.Prelude.{◌==◌, ◌&&◌, ◌||◌, count_by}
 use Rattle.std.specs.List.{AllByRecursion as Each}
 use Rattle.std.proofs.lemmas.Bool.{and_parts}
@@ -9,7 +9,6 @@ use Rattle.p2p_base.specs.declared.key.Key.{Key}
 use Rattle.p2p_log.specs.declared.config.Config.{Config}
 use Rattle.p2p_log.specs.declared.queue.Queue.{Queue}
 use Rattle.p2p_log.specs.declared.queue.Queue.TheVariants as queue
-use Rattle.p2p_log.specs.declared.queue.Side.TheVariants as side
 use Rattle.p2p_log.specs.declared.item.Item.{Item}
 use Rattle.p2p_log.specs.declared.item.Item.TheVariants as item
 use Rattle.p2p_log.specs.declared.item.Envelope.{Envelope}
@@ -26,11 +25,10 @@ use Rattle.p2p_log.proofs.Each.{count_by-none}
 use Rattle.p2p_log.proofs.Queues.{same_queue-refl}
 use Rattle.p2p_log_rules.specs.declared.row.Row.{Row}
 use Rattle.p2p_log_rules.specs.Attempting.{left_ends, handed_on_row}
-use Rattle.p2p_log_rules.specs.Dropping.{handshake_step_row}
+use Rattle.p2p_log_rules.specs.Dropping.{handshake_step_row, listening_end}
 use Rattle.p2p_log_rules.specs.Puts.{broke_off}
 use Rattle.p2p_log_rules.specs.Effect.{entry_of}
-use Rattle.p2p_log_rules.specs.Facts.{taken}
-use Rattle.p2p_log_rules.specs.Handshakes.{is_handshaking, is_finished, takes_acceptance, Peer, peer_at}
+use Rattle.p2p_log_rules.specs.Handshakes.{Handshake, handshake_at, came_over, is_handshaking, is_finished, takes_acceptance}
 use Rattle.p2p_log_rules.proofs.HandshakeTook.{apart_step, takes_none, takes_step}
 use Rattle.p2p_log_rules.specs.Handshaking.{handshake_deadline, ended_row, handshake_took_row, is_due, handshake_turn, handshake_row}
 use Rattle.p2p_log_rules.specs.Moves.{Moves}
@@ -63,7 +61,7 @@ module _ (w : Words) (n name : ℕ) (configs : List Config) (log : List Entry) (
       by false there = silent_away w n name (queue.Tracker m) (item.AskListen k key) (ap (λ b. b && true) (turned m n there)) refl
 
   module _ (k m : ℕ) (other : ((m == n) && (k == name)) ≡ false) where
-    took_silent : (full : Bool) (peer : Peer) (took : ℕ × ℕ) (i : Item) (left : List Envelope) → Each (Silent w n name) (handshake_took_row m full k peer took i left).puts
+    took_silent : (full : Bool) (peer : Handshake) (took : ℕ × ℕ) (i : Item) (left : List Envelope) → Each (Silent w n name) (handshake_took_row m full k peer took i left).puts
     took_silent full peer took (item.Acceptable true) left = tt
     took_silent full peer took (item.Acceptable false) left = tt
     took_silent full peer took (item.Finished true) left = (asked_silent k m peer.key other, tt)
@@ -72,19 +70,20 @@ module _ (w : Words) (n name : ℕ) (configs : List Config) (log : List Entry) (
     took_silent full peer took (item.Listen None) left = tt
     took_silent full peer took _ left = tt
 
-    turn_silent : (full due : Bool) (peer : Peer) (xs : List Envelope) → Each (Silent w n name) (handshake_turn m full due k peer xs).puts
-    turn_silent full true peer [] = tt
-    turn_silent full false peer [] = tt
-    turn_silent full due peer (x ∷ xs) = took_silent full peer (name_of x) x.item xs
+    turn_silent : (full due : Bool) (o : Option Handshake) (xs : List Envelope) → Each (Silent w n name) (handshake_turn m full due k o xs).puts
+    turn_silent full due None xs = tt
+    turn_silent full true (Some peer) [] = tt
+    turn_silent full false (Some peer) [] = tt
+    turn_silent full due (Some peer) (x ∷ xs) = took_silent full peer (name_of x) x.item xs
 
     pub row_silent : Each (Silent w n name) (handshake_step_row configs log k m at).puts
     row_silent =
         let r : Row = handshake_row configs log k m at in
-        each_dropping (Silent w n name) log (cond (broke_off r.reply (map (λ x. x.item) (take 1 (line log (queue.Handshake m k)))) r.puts) (Some ((peer_at log k).link, side.In)) None) r (by (is_handshaking log m k))
+        each_dropping (Silent w n name) log (cond (broke_off r.reply (map (λ x. x.item) (take 1 (line log (queue.Handshake m k)))) r.puts) (listening_end (came_over log k)) None) r (by (is_handshaking log m k))
       where
         by : (b : Bool) → Each (Silent w n name)
-            (cond b (handshake_turn m (is_spawner_full configs log m) (is_due (handshake_deadline configs log k m) at (is_finished log m k)) k (peer_at log k) (line log (queue.Handshake m k))) (only reply.Gone)).puts
-        by true = turn_silent (is_spawner_full configs log m) (is_due (handshake_deadline configs log k m) at (is_finished log m k)) (peer_at log k) (line log (queue.Handshake m k))
+            (cond b (handshake_turn m (is_spawner_full configs log m) (is_due (handshake_deadline configs log k m) at (is_finished log m k)) k (handshake_at log k) (line log (queue.Handshake m k))) (only reply.Gone)).puts
+        by true = turn_silent (is_spawner_full configs log m) (is_due (handshake_deadline configs log k m) at (is_finished log m k)) (handshake_at log k) (line log (queue.Handshake m k))
         by false = tt
 
     pub other_answers : Answers w n name log (event (act.Handshake k m)) (handshake_step_row configs log k m at)
@@ -175,7 +174,7 @@ module _ (w : Words) (n name : ℕ) (configs : List Config) (log : List Entry) (
     asked_few false true = omega arith
     asked_few false false = omega arith
 
-    by_item : (full : Bool) (peer : Peer) (i : Item) → x.item ≡ i → Answers w n name log ev (handshake_took_row n full name peer (name_of x) i rest)
+    by_item : (full : Bool) (peer : Handshake) (i : Item) → x.item ≡ i → Answers w n name log ev (handshake_took_row n full name peer (name_of x) i rest)
     by_item full peer (item.Acceptable true) is = goes_on [] (item.Acceptable true) is (accepted_few w.acceptance)
     by_item full peer (item.Acceptable false) is = ends [] tt (item.Acceptable false) is refl
     by_item full peer (item.Finished true) is =
@@ -186,20 +185,21 @@ module _ (w : Words) (n name : ℕ) (configs : List Config) (log : List Entry) (
     by_item full peer (item.Listen None) is = ends [] tt (item.Listen None) is refl
     by_item full peer i is = ends [] tt i is refl
 
-  by_line : (full due : Bool) (peer : Peer) (xs : List Envelope) → line log q ≡ xs → Answers w n name log ev (handshake_turn n full due name peer xs)
-  by_line full true peer [] none = expired
-  by_line full false peer [] none = idle reply.Idle
-  by_line full due peer (x ∷ rest) first = by_item x rest first full peer x.item refl
+  by_line : (full due : Bool) (o : Option Handshake) (xs : List Envelope) → line log q ≡ xs → Answers w n name log ev (handshake_turn n full due name o xs)
+  by_line full due None xs first = idle reply.Gone
+  by_line full true (Some peer) [] none = expired
+  by_line full false (Some peer) [] none = idle reply.Idle
+  by_line full due (Some peer) (x ∷ rest) first = by_item x rest first full peer x.item refl
 
   own_answers : Answers w n name log ev (handshake_step_row configs log name n at)
   own_answers =
       let r : Row = handshake_row configs log name n at in
-      dropped w n name log ev r (cond (broke_off r.reply (map (λ x. x.item) (take 1 (line log q))) r.puts) (Some ((peer_at log name).link, side.In)) None) (by (is_handshaking log n name))
+      dropped w n name log ev r (cond (broke_off r.reply (map (λ x. x.item) (take 1 (line log q))) r.puts) (listening_end (came_over log name)) None) (by (is_handshaking log n name))
       (handshake_shape configs log name n at).moves
     where
       by : (b : Bool) → Answers w n name log ev
-          (cond b (handshake_turn n (is_spawner_full configs log n) (is_due (handshake_deadline configs log name n) at (is_finished log n name)) name (peer_at log name) (line log q)) (only reply.Gone))
-      by true = by_line (is_spawner_full configs log n) (is_due (handshake_deadline configs log name n) at (is_finished log n name)) (peer_at log name) (line log q) refl
+          (cond b (handshake_turn n (is_spawner_full configs log n) (is_due (handshake_deadline configs log name n) at (is_finished log n name)) name (handshake_at log name) (line log q)) (only reply.Gone))
+      by true = by_line (is_spawner_full configs log n) (is_due (handshake_deadline configs log name n) at (is_finished log n name)) (handshake_at log name) (line log q) refl
       by false = idle reply.Gone
 
   pub handshake_answers : (k m : ℕ) → Answers w n name log (event (act.Handshake k m)) (handshake_step_row configs log k m at)

@@ -1,5 +1,5 @@
 -- A step of a handshake hands a grant on, from the answer that it takes to the spawner, or puts a release of it.
-use Rattle.std.proofs.Common.{◌≡◌, ℕ, ◌+◌, Bool, true, false, List, [], ◌∷◌, Some, None, refl, ap, subst, ◌∙◌, arith, eq-eqb}
+use Rattle.std.proofs.Common.{◌≡◌, ℕ, ◌+◌, Bool, true, false, List, [], ◌∷◌, Some, None, refl, ap, subst, ◌∙◌, arith, eq-eqb, Option}
 use Rattle.std.specs.Prelude.{◌==◌, ◌&&◌, count_by}
 use Rattle.std.specs.List.{AllByRecursion as Each}
 use Rattle.p2p_base.specs.declared.key.Key.{Key}
@@ -17,7 +17,7 @@ use Rattle.p2p_log.specs.Taken.{AreTaken}
 use Rattle.p2p_log.proofs.Queues.{same_queue-refl}
 use Rattle.p2p_log_rules.specs.declared.row.Row.{Row}
 use Rattle.p2p_log_rules.specs.Attempting.{left_ends, handed_on_row}
-use Rattle.p2p_log_rules.specs.Handshakes.{Peer}
+use Rattle.p2p_log_rules.specs.Handshakes.{Handshake}
 use Rattle.p2p_log_rules.specs.Handshaking.{ended_row, handshake_took_row, handshake_turn}
 use Rattle.p2p_log_rules.specs.Moves.{Moves}
 use Rattle.p2p_log_rules.specs.Rows.{only}
@@ -109,7 +109,7 @@ module _ (n : ℕ) (key : Key) (log : List Entry) (h : ℕ) where
           let same : one (grants_key key x.item) ≡ one (k.0 == key.0) = ap one is in
           ends_with (p ∷ []) (omega (arith, put, none, same))
 
-      by_item : (full : Bool) (peer : Peer) (i : Item) → x.item ≡ i → fits q i ≡ true → Hands (handshake_took_row n full h peer (name_of x) i rest)
+      by_item : (full : Bool) (peer : Handshake) (i : Item) → x.item ≡ i → fits q i ≡ true → Hands (handshake_took_row n full h peer (name_of x) i rest)
       by_item full peer (item.Acceptable true) is fit = goes_on [] tt (ap (grants_key key) is)
       by_item full peer (item.Acceptable false) is fit = ends (ap (grants_key key) is)
       by_item full peer (item.Finished true) is fit =
@@ -119,7 +119,8 @@ module _ (n : ℕ) (key : Key) (log : List Entry) (h : ℕ) where
       by_item full peer (item.Listen None) is fit = ends (ap (grants_key key) is)
       by_item full peer _ is fit = absurd (cc)
 
-  pub turn_hands : GrantsFirst n key log h → (full due : Bool) (peer : Peer) (xs : List Envelope) → line log q ≡ xs → Hands (handshake_turn n full due h peer xs)
-  turn_hands only_first full true peer [] none = expired none
-  turn_hands only_first full false peer [] none = nothing reply.Idle
-  turn_hands only_first full due peer (x ∷ rest) first = by_item x rest first (only_first x rest first).1 full peer x.item refl (only_first x rest first).0
+  pub turn_hands : GrantsFirst n key log h → (full due : Bool) (o : Option Handshake) (xs : List Envelope) → line log q ≡ xs → Hands (handshake_turn n full due h o xs)
+  turn_hands only_first full due None xs first = nothing reply.Gone
+  turn_hands only_first full true (Some peer) [] none = expired none
+  turn_hands only_first full false (Some peer) [] none = nothing reply.Idle
+  turn_hands only_first full due (Some peer) (x ∷ rest) first = by_item x rest first (only_first x rest first).1 full peer x.item refl (only_first x rest first).0

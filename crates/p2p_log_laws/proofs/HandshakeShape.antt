@@ -8,7 +8,6 @@ use Rattle.std.proofs.lemmas.Bool.{false≢true}
 use Rattle.p2p_log.specs.declared.config.Config.{Config}
 use Rattle.p2p_log.specs.declared.queue.Queue.{Queue}
 use Rattle.p2p_log.specs.declared.queue.Queue.TheVariants as queue
-use Rattle.p2p_log.specs.declared.queue.Side.TheVariants as side
 use Rattle.p2p_log.specs.declared.item.Item.{Item}
 use Rattle.p2p_log.specs.declared.item.Item.TheVariants as item
 use Rattle.p2p_log.specs.declared.item.Envelope.{Envelope}
@@ -25,7 +24,7 @@ use Rattle.p2p_log.proofs.Queues.{same_queue-refl}
 use Rattle.p2p_log.specs.QueueCode.{same_queue}
 use Rattle.p2p_log_rules.specs.declared.row.Row.{Row}
 use Rattle.p2p_log_rules.proofs.Dropping.{all_of, drops_of-handshake}
-use Rattle.p2p_log_rules.specs.Dropping.{LinkEnd, other_side, dropping, frames_towards, handshake_step_row}
+use Rattle.p2p_log_rules.specs.Dropping.{LinkEnd, other_side, dropping, frames_towards, handshake_step_row, listening_end}
 use Rattle.p2p_log_rules.specs.Puts.{is_spawn, broke_off}
 use Rattle.p2p_log_rules.specs.Effect.{entry_of, goes_to}
 use Rattle.p2p_log_rules.specs.Facts.{taken}
@@ -33,7 +32,7 @@ use Rattle.p2p_log_rules.specs.Moves.{Moves}
 use Rattle.p2p_log_rules.specs.Reading.{is_read}
 use Rattle.p2p_log_rules.specs.Rows.{only, is_spawner_full, taken_row}
 use Rattle.p2p_log_rules.specs.Attempting.{left_ends, handed_on_row}
-use Rattle.p2p_log_rules.specs.Handshakes.{ends_handshake, is_handshaking, is_finished, Peer, peer_at}
+use Rattle.p2p_log_rules.specs.Handshakes.{Handshake, handshake_at, came_over, ends_handshake, is_handshaking, is_finished}
 use Rattle.p2p_log_rules.specs.Handshaking.{handshake_deadline, ended_row, exchanged_row, handshake_took_row, is_due, handshake_turn, handshake_row}
 use Rattle.p2p_log_laws.proofs.Gone.{all_go}
 use Rattle.p2p_log_laws.proofs.Reaching.{in_flight, writes, ends_in}
@@ -49,11 +48,11 @@ module _ (configs : List Config) (log : List Entry) (e n : ℕ) where
   abbrev q : Queue
   q = queue.Handshake n e
 
-  abbrev over : LinkEnd
-  over = ((peer_at log e).link, side.In)
+  abbrev over : Option LinkEnd
+  over = listening_end (came_over log e)
 
   written : ends_in configs log a q ≡ true
-  written = ap (λ b. b || in_flight (Some over) q) (same_queue-refl q)
+  written = ap (λ b. b || in_flight over q) (same_queue-refl q)
 
   asks : writes configs log a (queue.Tracker n) ≡ true
   asks = ap (λ b. b || (same_queue (queue.Spawner n) (queue.Tracker n) || same_queue q (queue.Tracker n))) (same_queue-refl (queue.Tracker n))
@@ -105,7 +104,7 @@ module _ (configs : List Config) (log : List Entry) (e n : ℕ) where
   ready_step true key link x rest first = left_step x rest first ((queue.Tracker n, item.Release key) ∷ []) ((refl, refl), tt) (asks, tt)
   ready_step false key link x rest first = left_step x rest first ((queue.Spawner n, item.Spawn key link) ∷ []) ((refl, refl), tt) (spawns, tt)
 
-  took_step : (full : Bool) (peer : Peer) (x : Envelope) (rest : List Envelope) → line log q ≡ x ∷ rest → (i : Item) → x.item ≡ i → Stepped (x ∷ rest) (handshake_took_row n full e peer (name_of x) i rest)
+  took_step : (full : Bool) (peer : Handshake) (x : Envelope) (rest : List Envelope) → line log q ≡ x ∷ rest → (i : Item) → x.item ≡ i → Stepped (x ∷ rest) (handshake_took_row n full e peer (name_of x) i rest)
   took_step full peer x rest first (item.Acceptable true) is = taken_step x rest first (ap (λ i. ends_handshake reply.Ok (i ∷ [])) is)
   took_step full peer x rest first (item.Acceptable false) is = left_step x rest first [] tt tt
   took_step full peer x rest first (item.Finished true) is = exchanged_step x rest first (ap (λ i. ends_handshake reply.Ok (i ∷ [])) is) peer.key
@@ -122,17 +121,18 @@ module _ (configs : List Config) (log : List Entry) (e n : ℕ) where
     whole = λ over. absurd (false≢true (sym goes_on ∙ (sym same ∙ over)));
   }
 
-  turn_step : (full due : Bool) (peer : Peer) (xs : List Envelope) → line log q ≡ xs → Stepped xs (handshake_turn n full due e peer xs)
-  turn_step full true peer [] none = none_left none
-  turn_step full false peer [] none = still_step [] reply.Idle refl refl refl refl
-  turn_step full due peer (x ∷ rest) first = took_step full peer x rest first x.item refl
+  turn_step : (full due : Bool) (o : Option Handshake) (xs : List Envelope) → line log q ≡ xs → Stepped xs (handshake_turn n full due e o xs)
+  turn_step full due None xs first = still_step xs reply.Gone refl refl refl refl
+  turn_step full true (Some peer) [] none = none_left none
+  turn_step full false (Some peer) [] none = still_step [] reply.Idle refl refl refl refl
+  turn_step full due (Some peer) (x ∷ rest) first = took_step full peer x rest first x.item refl
 
   handshake_step : (at : ℕ) → Stepped (line log q) (handshake_row configs log e n at)
   handshake_step at = by_running (is_handshaking log n e)
     where
       by_running : (b : Bool) → Stepped (line log q)
-          (cond b (handshake_turn n (is_spawner_full configs log n) (is_due (handshake_deadline configs log e n) at (is_finished log n e)) e (peer_at log e) (line log q)) (only reply.Gone))
-      by_running true = turn_step (is_spawner_full configs log n) (is_due (handshake_deadline configs log e n) at (is_finished log n e)) (peer_at log e) (line log q) refl
+          (cond b (handshake_turn n (is_spawner_full configs log n) (is_due (handshake_deadline configs log e n) at (is_finished log n e)) e (handshake_at log e) (line log q)) (only reply.Gone))
+      by_running true = turn_step (is_spawner_full configs log n) (is_due (handshake_deadline configs log e n) at (is_finished log n e)) (handshake_at log e) (line log q) refl
       by_running false = still_step (line log q) reply.Gone refl refl refl refl
 
   -- what it moves beside the frames in flight towards the end that it drops
@@ -143,7 +143,7 @@ module _ (configs : List Config) (log : List Entry) (e n : ℕ) where
   pub handshake_gone : (at : ℕ) (ev : Event) → Each (λ x. goes_to q x ≡ false) (handshake_row configs log e n at).puts
       → ends_handshake (handshake_step_row configs log e n at).reply (taken log (entry_of ev (handshake_step_row configs log e n at))) ≡ true
       → line (log ++ entry_of ev (handshake_step_row configs log e n at) ∷ []) q ≡ []
-  handshake_gone at ev aside = by (cond (broke_off r.reply (map (λ x. x.item) (take 1 (line log q))) r.puts) (Some ((peer_at log e).link, side.In)) None)
+  handshake_gone at ev aside = by (cond (broke_off r.reply (map (λ x. x.item) (take 1 (line log q))) r.puts) over None)
     where
       r : Row
       r = handshake_row configs log e n at
@@ -170,12 +170,12 @@ module _ (configs : List Config) (log : List Entry) (e n : ℕ) where
   -- where it ends without a connection, it drops its end of its link
   pub handshake_shape : (at : ℕ) → Shape configs log a (handshake_step_row configs log e n at)
   handshake_shape at =
-      dropping_shape configs log a q r s.within (cond broke (Some over) None)
+      dropping_shape configs log a q r s.within (cond broke over None)
       (λ cut is. handshake_aside cut.0 (other_side cut.1) n e) (λ cut is. towards cut (gave cut broke is))
       (λ cut is ev acts x place stands copy bears. inr (inl (record {
         steps = (n, inr (e, inr acts));
         cut = cut;
-        drops = (0, ap (λ l. slice_get l 0) (drops_of-handshake log (entry_of ev (dropping log (Some cut) r)) e n acts ∙ ap all_of (ap (λ b. cond (b && not (list_any is_spawn r.puts)) (Some over) None) (ends ev cut) ∙ is)));
+        drops = (0, ap (λ l. slice_get l 0) (drops_of-handshake log (entry_of ev (dropping log (Some cut) r)) e n acts ∙ ap all_of (ap (λ b. cond (b && not (list_any is_spawn r.puts)) over None) (ends ev cut) ∙ is)));
         place = place;
         left = x;
         stood = stands;
@@ -191,11 +191,11 @@ module _ (configs : List Config) (log : List Entry) (e n : ℕ) where
       broke : Bool
       broke = broke_off r.reply (map (λ x. x.item) (take 1 (line log q))) r.puts
 
-      gave : (cut : LinkEnd) (b : Bool) → cond b (Some over) None ≡ Some cut → ◌≡◌ {A = Option LinkEnd} (Some over) (Some cut)
+      gave : (cut : LinkEnd) (b : Bool) → cond b over None ≡ Some cut → over ≡ Some cut
       gave cut true is = is
       gave cut false is = absurd (cc)
 
-      towards : (cut : LinkEnd) → ◌≡◌ {A = Option LinkEnd} (Some over) (Some cut) → ends_in configs log a (queue.Link cut.0 (other_side cut.1)) ≡ true
+      towards : (cut : LinkEnd) → over ≡ Some cut → ends_in configs log a (queue.Link cut.0 (other_side cut.1)) ≡ true
       towards cut is =
           let link : Queue = queue.Link cut.0 (other_side cut.1) in
           ap (λ b. same_queue q link || b) (ap (λ p. in_flight p link) is ∙ same_queue-refl link) ∙ or_true (same_queue q link)

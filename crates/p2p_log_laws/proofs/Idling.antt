@@ -1,12 +1,11 @@
 -- A step of an actor is what that makes of its first input, and idle exactly where none is ready.
 use Rattle.std.proofs.Common.{◌≡◌, ℕ, zero, suc, Bool, true, false, cond, List, [], ◌∷◌, ◌++◌, take, length, refl, ap, sym, subst, ◌∙◌, Option, Some, None}
-use Rattle.std.specs.Prelude.{◌&&◌, ◌-◌, not, nat_le, nat_lt, is_none, slice_get, filter, map}
+use Rattle.std.specs.Prelude.{◌&&◌, ◌-◌, not, nat_le, nat_lt, is_none, filter, map}
 use Rattle.std.specs.List.{AllByRecursion as Each}
 use Rattle.p2p_log.specs.declared.config.Config.{Config}
 use Rattle.p2p_log.specs.declared.queue.Queue.{Queue}
 use Rattle.p2p_log.specs.declared.queue.Queue.TheVariants as queue
 use Rattle.p2p_log.specs.declared.queue.Side.{Side}
-use Rattle.p2p_log.specs.declared.queue.Side.TheVariants as side
 use Rattle.p2p_log.specs.declared.item.Item.{Item}
 use Rattle.p2p_log.specs.declared.item.Item.TheVariants as item
 use Rattle.p2p_log.specs.declared.item.Envelope.{Envelope}
@@ -26,13 +25,13 @@ use Rattle.p2p_log_rules.specs.Closing.{is_closed, refused_by}
 use Rattle.p2p_log_rules.specs.Connections.{live_half, is_begun, is_running}
 use Rattle.p2p_log_rules.specs.Dialing.{Dials, dials_of, due_row, answer_taken_row}
 use Rattle.p2p_log_rules.specs.Cutting.{is_broken}
-use Rattle.p2p_log_rules.specs.Dropping.{other_side, dialing_end, arriving_end, attempt_drops, handshake_drops, listener_drops}
+use Rattle.p2p_log_rules.specs.Dropping.{other_side, dialing_end, arriving_end, attempt_drops, handshake_drops, listener_drops, listening_end}
 use Rattle.p2p_log_rules.specs.Effect.{effect, entry_of, row, route_row, batch_size_at, batch, written_row, deliver_row, delivered_row, message_row, ping_row, frame_row, retry_row, limit_at}
 use Rattle.p2p_log_rules.specs.Effect as effects
 use Rattle.p2p_log_rules.specs.Facts.{is_up, channels, capacity_in}
 use Rattle.p2p_log_rules.specs.First.{Actor, tracker, router, spawner, dialer, listener, attempt, handshake, sender, receiver, actor_of, Input, takes, due, begins, fault, first_of, ready, oldest_of, only_where, attempt_due, is_admitted, link_inputs, held_inputs, stands, has_half, acts, first_input, by_input}
 use Rattle.p2p_log_rules.specs.Frames.{message_in, is_ping_in}
-use Rattle.p2p_log_rules.specs.Handshakes.{is_handshaking, is_finished, Peer, peer_at}
+use Rattle.p2p_log_rules.specs.Handshakes.{Handshake, handshake_at, came_over, is_finished}
 use Rattle.p2p_log_rules.specs.Handshaking.{handshake_deadline, is_due}
 use Rattle.p2p_log_rules.specs.Handshaking as handshaking
 use Rattle.p2p_log_rules.specs.Lawful.{IsLawful}
@@ -47,6 +46,7 @@ use Rattle.p2p_log_rules.specs.Tracking.{key_cmp, rules_at, calls_of}
 use Rattle.p2p_tracker_calls.specs.BlockedKeys.{due_keys}
 use Rattle.p2p_log_rules.proofs.First.{dropping-reply, row-first}
 use Rattle.p2p_log_rules.proofs.Moves.{one_taken, first_has}
+use Rattle.p2p_log_rules.proofs.HandshakeBegun.{handshaking_begun}
 use Rattle.p2p_log_laws.specs.Idling.{is_gone, is_idle, ServesFirst, EachStepServesFirst}
 use Rattle.p2p_log_laws.proofs.Fitting.{fits, StandsFit}
 use Rattle.p2p_log_laws.proofs.Ledger.{Told-each}
@@ -107,7 +107,7 @@ tried_serves n full private seed a name (item.Finished true) left = ready_serves
 tried_serves n full private seed a name (item.Finished false) left = refl
 tried_serves n full private seed a name _ left = refl
 
-shaken_serves : (n : ℕ) (full : Bool) (h : ℕ) (peer : Peer) (name : ℕ × ℕ) (i : Item) (left : List Envelope) → is_still (handshaking.handshake_took_row n full h peer name i left).reply ≡ false
+shaken_serves : (n : ℕ) (full : Bool) (h : ℕ) (peer : Handshake) (name : ℕ × ℕ) (i : Item) (left : List Envelope) → is_still (handshaking.handshake_took_row n full h peer name i left).reply ≡ false
 shaken_serves n full h peer name (item.Acceptable true) left = refl
 shaken_serves n full h peer name (item.Acceptable false) left = refl
 shaken_serves n full h peer name (item.Finished true) left = refl
@@ -297,16 +297,17 @@ module _ (configs : List Config) (log : List Entry) (fitting : Each StandsFit (l
       by (Some a) runs [] = turn a (nat_le a.deadline at)
       by (Some a) runs (x ∷ xs) = tried_serves n (is_spawner_full configs log n) (dial_rules_at configs n).private seed a (name_of x) x.item xs
   serves_first (handshake n h) runs =
-      drops_serves (handshake_drops log (peer_at log h).link (line log (queue.Handshake n h)))
-      (λ r. dropping-reply log (cond (broke_off r.reply (map (λ x. x.item) (take 1 (line log (queue.Handshake n h)))) r.puts) (Some ((peer_at log h).link, side.In)) None) r)
-      (handshake_serves n (is_spawner_full configs log n) h (peer_at log h)) (first_input configs log at (handshake n h))
-      (by (line log (queue.Handshake n h)) (is_due (handshake_deadline configs log h n) at (is_finished log n h)))
+      drops_serves (handshake_drops log (came_over log h) (line log (queue.Handshake n h)))
+      (λ r. dropping-reply log (cond (broke_off r.reply (map (λ x. x.item) (take 1 (line log (queue.Handshake n h)))) r.puts) (listening_end (came_over log h)) None) r)
+      (handshake_serves n (is_spawner_full configs log n) h (handshake_at log h)) (first_input configs log at (handshake n h))
+      (by (handshake_at log h) (handshaking_begun log n h runs).1 (line log (queue.Handshake n h)) (is_due (handshake_deadline configs log h n) at (is_finished log n h)))
     where
-      by : (xs : List Envelope) (b : Bool)
-          → Serves (handshake_serves n (is_spawner_full configs log n) h (peer_at log h)) (first_of (oldest_of (queue.Handshake n h) xs ∷ ready b due ∷ []))
-      by (x ∷ xs) b = shaken_serves n (is_spawner_full configs log n) h (peer_at log h) (name_of x) x.item xs
-      by [] true = refl
-      by [] false = tt
+      by : (o : Option Handshake) → o ≡ Some (handshaking_begun log n h runs).0 → (xs : List Envelope) (b : Bool)
+          → Serves (handshake_serves n (is_spawner_full configs log n) h o) (first_of (oldest_of (queue.Handshake n h) xs ∷ ready b due ∷ []))
+      by None begun xs b = absurd (cc)
+      by (Some s) begun (x ∷ xs) b = shaken_serves n (is_spawner_full configs log n) h s (name_of x) x.item xs
+      by (Some s) begun [] true = refl
+      by (Some s) begun [] false = tt
   serves_first (sender n conn) runs = by (is_up log n) (live_half log n conn) runs
     where
       by : (up : Bool) (o : Option Half) → (up && has_half o) ≡ true → Serves (sender_serves configs log n conn o) (first_input configs log at (sender n conn))

@@ -37,15 +37,15 @@ use Rattle.p2p_log_rules.proofs.Families.{kinds_of, are_apart}
 use Rattle.p2p_log_rules.specs.Dialing.{dialer_row}
 use Rattle.p2p_log_rules.specs.declared.row.Opening.{Opening}
 use Rattle.p2p_log_rules.specs.declared.row.ListeningEnd.{ListeningEnd}
-use Rattle.p2p_log_rules.specs.Handshakes.{is_handshaking, is_finished, peer_at}
+use Rattle.p2p_log_rules.specs.Handshakes.{handshake_at, came_over, is_handshaking, is_finished}
 use Rattle.p2p_log_rules.specs.Handshaking.{handshake_deadline, is_due, handshake_turn, handshake_row}
 use Rattle.p2p_log_rules.specs.Cutting.{is_cut}
 use Rattle.p2p_log_rules.specs.Links.{openings_of, listening_ends_of, finished_row, verdict, finish_by, finish_row}
 use Rattle.p2p_log_rules.specs.Listening.{listener_row}
 use Rattle.p2p_log_rules.specs.Connections.{half_at, is_ended}
-use Rattle.p2p_log_rules.specs.Dropping.{dialing_end, arriving_end, attempt_step_row, handshake_step_row}
+use Rattle.p2p_log_rules.specs.Dropping.{dialing_end, arriving_end, attempt_step_row, handshake_step_row, listening_end}
 use Rattle.p2p_log_rules.specs.Puts.{gave_up, ends_attempt, broke_off, turns_away}
-use Rattle.p2p_log_rules.specs.Effect.{effect, entry_of, row, send_step_row, recv_step_row}
+use Rattle.p2p_log_rules.specs.Effect.{entry_of, row, send_step_row, recv_step_row}
 use Rattle.p2p_base.specs.declared.outcome.Feedback.TheVariants as feedback
 use Rattle.p2p_log_rules.specs.Facts.{stops, is_stopped, item_named, taken}
 use Rattle.p2p_log_rules.specs.Moves.{Moves}
@@ -58,8 +58,8 @@ use Rattle.p2p_log_rules.specs.TrackerRows as rows
 use Rattle.p2p_log_rules.proofs.Touches.{is_told_to}
 use Rattle.p2p_log_laws.proofs.Reaching.{in_connection, reads, ends_in}
 use Rattle.p2p_log_laws.specs.Grants.{one, Granting, held_after}
-use Rattle.p2p_log_laws.specs.NodeGrants.{is_attempt_of, is_connection_of, puts_grant, tells_grant, tells_release, granting}
-use Rattle.p2p_log_laws.proofs.Granting.{grants_of, releases_of, grants_elsewhere}
+use Rattle.p2p_log_laws.specs.NodeGrants.{is_attempt_of, is_connection_of, tells_grant, tells_release, granting}
+use Rattle.p2p_log_laws.proofs.Granting.{grants_of, releases_of}
 use Rattle.p2p_log_laws.proofs.AttemptGrants.{Ends, attempt_ends}
 use Rattle.p2p_log_laws.proofs.AttemptHolds.{took_holds, bounded_holds, holds_kept, holds_begun, holds_changed}
 use Rattle.p2p_log_laws.proofs.ConnectionHolds.{connections_kept, connections_made}
@@ -318,7 +318,7 @@ module _ (configs : List Config) (n : ℕ) (key : Key) (log : List Entry) where
     handshake_weighs h only_first =
         let r : Row = handshake_row configs log h n at in
         weighs.dropped_weighs configs n key log at seed (event at seed (act.Handshake h n)) r
-        (cond (broke_off r.reply (map (λ x. x.item) (take 1 (line log (queue.Handshake n h)))) r.puts) (Some ((peer_at log h).link, side.In)) None) (by_running (is_handshaking log n h))
+        (cond (broke_off r.reply (map (λ x. x.item) (take 1 (line log (queue.Handshake n h)))) r.puts) (listening_end (came_over log h)) None) (by_running (is_handshaking log n h))
         (handshake_shape configs log h n at).moves
       where
         full : Bool
@@ -327,9 +327,9 @@ module _ (configs : List Config) (n : ℕ) (key : Key) (log : List Entry) where
         due : Bool
         due = is_due (handshake_deadline configs log h n) at (is_finished log n h)
 
-        by_running : (b : Bool) → Weighs (event at seed (act.Handshake h n)) (cond b (handshake_turn n full due h (peer_at log h) (line log (queue.Handshake n h))) (only reply.Gone))
+        by_running : (b : Bool) → Weighs (event at seed (act.Handshake h n)) (cond b (handshake_turn n full due h (handshake_at log h) (line log (queue.Handshake n h))) (only reply.Gone))
         by_running true =
-            hands_weighs h (handshake_turn n full due h (peer_at log h) (line log (queue.Handshake n h))) (turn_hands n key log h only_first full due (peer_at log h) (line log (queue.Handshake n h)) refl)
+            hands_weighs h (handshake_turn n full due h (handshake_at log h) (line log (queue.Handshake n h))) (turn_hands n key log h only_first full due (handshake_at log h) (line log (queue.Handshake n h)) refl)
         by_running false = hands_weighs h (only reply.Gone) (nothing n key log h reply.Gone)
 
     -- ---- the end of an exchange
@@ -399,11 +399,11 @@ module _ (configs : List Config) (n : ℕ) (key : Key) (log : List Entry) where
         (record { dialer = refl; handshakes = λ h. refl; spawner = ap (λ b. (b && true) || false) differ; tracker = ap (λ b. (b && true) || false) differ }) refl refl refl
         (untried (act.Attempt i m) r differ)
 
-    handshake_at : (i m : ℕ) (b : Bool) → (m == n) ≡ b → GrantsFirst n key log i → Weighs (event at seed (act.Handshake i m)) (row configs log at seed (act.Handshake i m))
+    one_shaken : (i m : ℕ) (b : Bool) → (m == n) ≡ b → GrantsFirst n key log i → Weighs (event at seed (act.Handshake i m)) (row configs log at seed (act.Handshake i m))
     unfolding row
-    handshake_at i m true same only_first =
+    one_shaken i m true same only_first =
         subst (λ j. Weighs (event at seed (act.Handshake i j)) (handshake_step_row configs log i j at)) (sym (eqb-true m n same)) (handshake_weighs i only_first)
-    handshake_at i m false differ only_first =
+    one_shaken i m false differ only_first =
         weighs.other configs n key log at seed (act.Handshake i m) (handshake_step_row configs log i m at) (row_shape configs log at seed (act.Handshake i m))
         (record { dialer = refl; handshakes = λ h. ap (λ b. b && (i == h)) differ; spawner = refl; tracker = refl })
         (record {
@@ -448,7 +448,7 @@ module _ (configs : List Config) (n : ℕ) (key : Key) (log : List Entry) where
     each_weighs fitting first unended (act.Dialer m) goes_on = dialer_at m (m == n) refl
     each_weighs fitting first unended (act.Spawner m) goes_on = spawner_at m (m == n) refl fitting unended
     each_weighs fitting first unended (act.Attempt i m) goes_on = attempt_at i m (m == n) refl
-    each_weighs fitting first unended (act.Handshake i m) goes_on = handshake_at i m (m == n) refl (first i)
+    each_weighs fitting first unended (act.Handshake i m) goes_on = one_shaken i m (m == n) refl (first i)
     each_weighs fitting first unended (act.Finish link ok) goes_on = finish_weighs link ok
     each_weighs fitting first unended (act.Listener m) goes_on =
         let aside = (listener_aside configs log m at).plain n key in

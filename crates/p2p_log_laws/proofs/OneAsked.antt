@@ -1,16 +1,15 @@
 -- The peer of a handshake is asked for once, while the handshake runs, and after keys were exchanged.
 use Rattle.std.proofs.Common.{◌≡◌, ℕ, zero, suc, ◌+◌, ◌≤◌, Bool, true, false, cond, List, [], ◌∷◌, ◌++◌, map, take, length, Option, Some, None, ◌⊎◌, inl, inr, refl, ap, sym, subst, ◌∙◌, arith, eqb-true}
 use Rattle.std.specs.Prelude.{◌==◌, ◌&&◌, ◌||◌, not, count_by, filter}
+use Rattle.std.specs.Option.{option_map}
 use Rattle.std.specs.List.{AllByRecursion as Each}
 use Rattle.std.proofs.lemmas.Bool.{and_parts}
 use Rattle.std.proofs.lemmas.List.Sums.{sum_by-cons}
 use Rattle.p2p_log_rules.proofs.Bools.{and_false, or_true}
-use Rattle.p2p_tracker_calls.specs.declared.gates.Reply.TheVariants as gates
 use Rattle.p2p_base.specs.declared.key.Key.{Key}
 use Rattle.p2p_log.specs.declared.config.Config.{Config}
 use Rattle.p2p_log.specs.declared.queue.Queue.{Queue}
 use Rattle.p2p_log.specs.declared.queue.Queue.TheVariants as queue
-use Rattle.p2p_log.specs.declared.queue.Side.TheVariants as side
 use Rattle.p2p_log.specs.declared.item.Item.{Item}
 use Rattle.p2p_log.specs.declared.item.Item.TheVariants as item
 use Rattle.p2p_log.specs.declared.item.Envelope.{Envelope}
@@ -27,18 +26,20 @@ use Rattle.p2p_log.proofs.Names.{AreApart-live_from}
 use Rattle.p2p_log.proofs.Queues.{same_queue-refl}
 use Rattle.p2p_log.proofs.Taken.{sum_by-taken}
 use Rattle.p2p_log_rules.specs.declared.row.Row.{Row}
-use Rattle.p2p_log_rules.specs.Dropping.{LinkEnd, dropping}
+use Rattle.p2p_log_rules.specs.Dropping.{LinkEnd, dropping, listening_end}
 use Rattle.p2p_log_rules.specs.Puts.{broke_off}
 use Rattle.p2p_log_rules.specs.Effect.{effect, entry_of, row}
 use Rattle.p2p_log_rules.specs.Facts.{taken}
-use Rattle.p2p_log_rules.specs.Handshakes.{ends_handshake, handshakes_of, is_handshaking, takes_exchange, is_finished, Peer, peer_at}
+use Rattle.p2p_log_rules.specs.Handshakes.{ends_handshake, handshakes_of, is_handshaking, takes_exchange, is_finished, Handshake, handshake_at, came_over}
 use Rattle.p2p_log_rules.specs.Handshaking.{handshake_deadline, exchanged_row, handshake_took_row, is_due, handshake_turn, handshake_row}
 use Rattle.p2p_log_rules.specs.Moves.{Moves}
 use Rattle.p2p_log_rules.specs.Rows.{only, is_spawner_full}
+use Rattle.p2p_log_rules.specs.Attempting.{dial_rules_at}
 use Rattle.p2p_log_rules.proofs.HandshakeEnds.{among_more}
 use Rattle.p2p_log_rules.proofs.Handshakes.{without_name, Begins, Ends, Stops, handshakes_of-shaken, handshakes_now, is_among, among-without}
 use Rattle.p2p_log_rules.proofs.HandshakeTook.{IsOther, step_or_other, has_taken-step, has_taken-other}
 use Rattle.p2p_log_rules.proofs.Moves.{one_taken}
+use Rattle.p2p_log_rules.proofs.HandshakeBegun.{handshaking_begun}
 use Rattle.p2p_log_laws.specs.Grants.{one}
 use Rattle.p2p_log_laws.specs.NodeGrants.{put_of}
 use Rattle.p2p_log_laws.specs.OneAnswer.{Words, answers, exchanges, tells, asks_about, is_for, waiting_for, asks_for, is_asked, waiting_asked, HasOne, is_open}
@@ -266,7 +267,7 @@ module _ (configs : List Config) (n name : ℕ) where
           one_asked now gone old more a b moved is also le none = omega (arith, moved, is, also, le, none)
 
       -- its row, by its oldest item
-      by_item : (full : Bool) (peer : Peer) (i : Item) → x.item ≡ i → Moves log (handshake_took_row n full name peer (name_of x) i rest) → Asked (log ++ entry_of ev (handshake_took_row n full name peer (name_of x) i rest) ∷ [])
+      by_item : (full : Bool) (peer : Handshake) (i : Item) → x.item ≡ i → Moves log (handshake_took_row n full name peer (name_of x) i rest) → Asked (log ++ entry_of ev (handshake_took_row n full name peer (name_of x) i rest) ∷ [])
       by_item full peer (item.Finished true) is m = asks peer.key is
       by_item full peer (item.Finished false) is m = unasked (handshake_took_row n full name peer (name_of x) (item.Finished false) rest) m no_one refl
       by_item full peer (item.Acceptable true) is m = unasked (handshake_took_row n full name peer (name_of x) (item.Acceptable true) rest) m no_one refl
@@ -286,7 +287,7 @@ module _ (configs : List Config) (n name : ℕ) where
       due = is_due (handshake_deadline configs log name n) at (is_finished log n name)
 
       abbrev turn : Bool → Bool → List Envelope → Row
-      turn d runs xs = cond runs (handshake_turn n full d name (peer_at log name) xs) (only reply.Gone)
+      turn d runs xs = cond runs (handshake_turn n full d name (handshake_at log name) xs) (only reply.Gone)
 
       abbrev own_row : Row
       own_row = handshake_row configs log name n at
@@ -306,23 +307,30 @@ module _ (configs : List Config) (n name : ℕ) where
       awaits : 1 ≤ waiting_asked n name log → own_row ≡ only reply.Idle
       awaits asked = by_line (line log own) refl
         where
+          -- one that runs has begun, and where keys were exchanged its deadline stands still
+          waits : {s : Handshake} (o : Option Handshake) → o ≡ Some s
+              → handshake_turn n full (is_due (option_map (λ (h : Handshake). h.at + (dial_rules_at configs n).handshake_timeout) o) at true) name o [] ≡ only reply.Idle
+          waits None begun = absurd (cc)
+          waits (Some s) begun = refl
+
           by_line : (xs : List Envelope) → line log own ≡ xs → own_row ≡ only reply.Idle
           by_line [] empty =
               let both = and_parts (is_handshaking log n name) (is_finished log n name) (on_then asked) in
               ap (turn due (is_handshaking log n name)) empty
               ∙ (ap (λ b. turn due b []) both.0
-              ∙ ap (λ b. turn (is_due (handshake_deadline configs log name n) at b) true []) both.1)
+              ∙ (ap (λ b. turn (is_due (handshake_deadline configs log name n) at b) true []) both.1 ∙ waits (handshake_at log name) (handshaking_begun log n name both.0).1))
           by_line (x ∷ rest) first = absurd (either n name log answered exchanged x rest first asked)
 
       -- where nobody asks, it may ask
       may_ask : waiting_asked n name log ≡ 0 → Asked (log ++ entry_of ev own_row ∷ [])
       may_ask no_one = by_running (is_handshaking log n name) refl
         where
-          by_line : (xs : List Envelope) → line log own ≡ xs → (d : Bool) → is_handshaking log n name ≡ true → Moves log (handshake_turn n full d name (peer_at log name) xs)
-              → Asked (log ++ entry_of ev (handshake_turn n full d name (peer_at log name) xs) ∷ [])
-          by_line [] first true runs m = unasked (handshake_turn n full true name (peer_at log name) []) m no_one refl
-          by_line [] first false runs m = unasked (handshake_turn n full false name (peer_at log name) []) m no_one refl
-          by_line (x ∷ rest) first d runs m = by_item x rest first no_one runs full (peer_at log name) x.item refl m
+          by_line : (o : Option Handshake) (xs : List Envelope) → line log own ≡ xs → (d : Bool) → is_handshaking log n name ≡ true → Moves log (handshake_turn n full d name o xs)
+              → Asked (log ++ entry_of ev (handshake_turn n full d name o xs) ∷ [])
+          by_line None xs first d runs m = unasked (only reply.Gone) m no_one refl
+          by_line (Some peer) [] first true runs m = unasked (handshake_turn n full true name (Some peer) []) m no_one refl
+          by_line (Some peer) [] first false runs m = unasked (handshake_turn n full false name (Some peer) []) m no_one refl
+          by_line (Some peer) (x ∷ rest) first d runs m = by_item x rest first no_one runs full peer x.item refl m
 
           by_running : (b : Bool) → is_handshaking log n name ≡ b → Asked (log ++ entry_of ev own_row ∷ [])
           by_running false gone =
@@ -330,7 +338,7 @@ module _ (configs : List Config) (n name : ℕ) where
               subst (λ s. Asked (log ++ entry_of ev s ∷ [])) (sym is) (unasked (only reply.Gone) (no_moves log (only reply.Gone) refl refl) no_one refl)
           by_running true runs =
               let is : own_row ≡ turn due true (line log own) = ap (λ b. turn due b (line log own)) runs in
-              subst (λ s. Asked (log ++ entry_of ev s ∷ [])) (sym is) (by_line (line log own) refl due runs (subst (Moves log) is (handshake_moves configs log name n at)))
+              subst (λ s. Asked (log ++ entry_of ev s ∷ [])) (sym is) (by_line (handshake_at log name) (line log own) refl due runs (subst (Moves log) is (handshake_moves configs log name n at)))
 
       pub own_asked : Asked (log ++ entry_of ev own_row ∷ [])
       own_asked = by (waiting_asked n name log) refl
@@ -382,7 +390,7 @@ module _ (configs : List Config) (n name : ℕ) where
   own_effect log at seed answered exchanged h =
       let r : Row = handshake_row configs log name n at in
       dropped_asked log (record { at = at; seed = seed; act = act.Handshake name n }) refl r
-      (cond (broke_off r.reply (map (λ x. x.item) (take 1 (line log (queue.Handshake n name)))) r.puts) (Some ((peer_at log name).link, side.In)) None)
+      (cond (broke_off r.reply (map (λ x. x.item) (take 1 (line log (queue.Handshake n name)))) r.puts) (listening_end (came_over log name)) None)
       (handshake_moves configs log name n at) (handshake_shape configs log name n at).moves (own_asked log at seed answered exchanged h)
 
   pub asked_more : (log : List Entry) (ev : Event) → HasOne n name answers log → HasOne n name exchanges log → Asked log → Asked (log ++ effect configs log ev ∷ [])

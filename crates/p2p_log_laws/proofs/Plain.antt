@@ -1,5 +1,5 @@
 -- What neither grants a key at a node nor releases it.
-use Rattle.std.proofs.Common.{◌≡◌, ℕ, Bool, true, false, List, [], ◌∷◌, Option, Some, refl, ap, sym, ◌∙◌, eqb-true}
+use Rattle.std.proofs.Common.{◌≡◌, ℕ, Bool, true, false, List, [], ◌∷◌, Option, refl, ap, sym, ◌∙◌, eqb-true}
 use Rattle.std.specs.Prelude.{◌==◌, ◌&&◌, ◌||◌, count_by}
 use Rattle.std.proofs.lemmas.Bool.{false≢true}
 use Rattle.std.specs.List.{AllByRecursion as Each, list_any}
@@ -20,8 +20,8 @@ use Rattle.p2p_log.proofs.Each.{Each-weaker, count_by-none}
 use Rattle.p2p_log_rules.specs.declared.row.Row.{Row}
 use Rattle.p2p_log_rules.specs.declared.row.Half.{Half}
 use Rattle.p2p_log_rules.specs.Connections.{half_at}
-use Rattle.p2p_log_rules.specs.Dropping.{LinkEnd, dialing_end, arriving_end, half_end}
-use Rattle.p2p_log_rules.specs.Handshakes.{peer_at}
+use Rattle.p2p_log_rules.specs.Dropping.{LinkEnd, dialing_end, arriving_end, half_end, listening_end}
+use Rattle.p2p_log_rules.specs.Handshakes.{came_over}
 use Rattle.p2p_log_rules.specs.Moves.{Moves}
 use Rattle.p2p_log_rules.specs.Facts.{stops}
 use Rattle.p2p_log_rules.specs.Stopping.{emptied_at}
@@ -167,7 +167,7 @@ ends_away configs log n (act.RecvStep conn m) goes_on written = connection_away 
 ends_away configs log n (act.Attempt e m) goes_on written =
     let far = flying_away n (dialing_end log m e) in record { dialer = far.dialer; handshakes = far.handshakes; spawner = far.spawner; tracker = far.tracker }
 ends_away configs log n (act.Handshake e m) goes_on written =
-    let over : Option LinkEnd = Some ((peer_at log e).link, side.In) in
+    let over : Option LinkEnd = listening_end (came_over log e) in
     let far = flying_away n over in
     record {
       dialer = far.dialer;

@@ -16,9 +16,9 @@ use Rattle.p2p_log.proofs.Each.{Each-append, Each-weaker}
 use Rattle.p2p_log_rules.specs.declared.row.Half.{Half}
 use Rattle.p2p_log_rules.specs.declared.row.Row.{Row}
 use Rattle.p2p_log_rules.specs.Connections.{half_at}
-use Rattle.p2p_log_rules.specs.Dropping.{LinkEnd, other_side, dialing_end, arriving_end, half_end}
+use Rattle.p2p_log_rules.specs.Dropping.{LinkEnd, other_side, dialing_end, arriving_end, half_end, listening_end}
 use Rattle.p2p_log_rules.specs.Effect.{entry_of, goes_to}
-use Rattle.p2p_log_rules.specs.Handshakes.{peer_at}
+use Rattle.p2p_log_rules.specs.Handshakes.{came_over}
 use Rattle.p2p_log_rules.specs.Moves.{Moves}
 use Rattle.p2p_log_rules.specs.Stopping.{emptied_at}
 use Rattle.p2p_log_rules.proofs.Moves.{line-left}
@@ -59,7 +59,7 @@ abbrev pub ends_in : List Config → List Entry → Act → Queue → Bool
 ends_in configs log (act.SendStep conn n) q = in_connection (half_at log n conn) n conn q
 ends_in configs log (act.RecvStep conn n) q = in_connection (half_at log n conn) n conn q
 ends_in configs log (act.Attempt e n) q = same_queue (queue.Attempt n e) q || in_flight (dialing_end log n e) q
-ends_in configs log (act.Handshake e n) q = same_queue (queue.Handshake n e) q || in_flight (Some ((peer_at log e).link, side.In)) q
+ends_in configs log (act.Handshake e n) q = same_queue (queue.Handshake n e) q || in_flight (listening_end (came_over log e)) q
 ends_in configs log (act.Listener n) q = in_flight (arriving_end log n) q
 ends_in configs log (act.Stop by_start n) q = list_any (λ p. same_queue p q) (emptied_at log n)
 ends_in configs log a q = touches.writes configs log a q

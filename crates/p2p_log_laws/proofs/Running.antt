@@ -1,8 +1,8 @@
 -- What waits for a handshake waits while it runs.
 use Rattle.std.proofs.Common.{◌≡◌, ℕ, ◌+◌, Bool, true, false, cond, List, [], ◌∷◌, ◌++◌, map, take, length, Option, Some, None, ◌⊎◌, inl, inr, refl, ap, sym, subst, ◌∙◌, eqb-true}
 use Rattle.std.specs.Prelude.{◌==◌, ◌&&◌, ◌||◌, not, filter, flat_map}
-use Rattle.std.specs.List.{AllByRecursion as Each}
 use Rattle.std.specs.Option.{option_map}
+use Rattle.std.specs.List.{AllByRecursion as Each}
 use Rattle.std.proofs.lemmas.Bool.{false≢true}
 use Rattle.p2p_base.specs.declared.key.Key.{Key}
 use Rattle.p2p_address.specs.declared.ip.IpAddr.{IpAddr}
@@ -32,13 +32,13 @@ use Rattle.p2p_log_rules.specs.declared.row.Opening.{Opening}
 use Rattle.p2p_log_rules.specs.declared.row.Row.{Row}
 use Rattle.p2p_log_rules.specs.Attempting.{Attempt, attempts_of}
 use Rattle.p2p_log_rules.specs.Connections.{is_ended}
-use Rattle.p2p_log_rules.specs.Dropping.{handshake_step_row}
+use Rattle.p2p_log_rules.specs.Dropping.{handshake_step_row, listening_end}
 use Rattle.p2p_log_rules.specs.Effect.{effect, entry_of, row, goes_to, send_step_row, recv_step_row}
 use Rattle.p2p_log_rules.specs.Facts.{is_up, taken}
 use Rattle.p2p_log_rules.specs.Connections.{half_at}
 use Rattle.p2p_log_rules.specs.Stopping.{with_attempt, with_handshake, with_half, queues_at}
 use Rattle.p2p_log_rules.specs.Told.{told as all_told, attempts_in, connections_in}
-use Rattle.p2p_log_rules.specs.Handshakes.{ends_handshake, is_handshaking, is_finished, handshakes_of, Peer, peer_at, source_at}
+use Rattle.p2p_log_rules.specs.Handshakes.{ends_handshake, is_handshaking, is_finished, handshakes_of, Handshake, handshake_at, came_over, source_at}
 use Rattle.p2p_log_rules.specs.Handshaking.{handshake_deadline, is_due, handshake_took_row, handshake_turn, handshake_row}
 use Rattle.p2p_log_rules.specs.Cutting.{is_cut}
 use Rattle.p2p_log_rules.specs.Links.{openings_of, listening_ends_of, dialing_puts, listening_puts, finished_row, verdict, finish_by, finish_row}
@@ -115,7 +115,7 @@ module _ (configs : List Config) (log : List Entry) (at seed : ℕ) where
 
   -- ---- a handshake's step
 
-  took : (n : ℕ) (full : Bool) (name : ℕ) (peer : Peer) (first : ℕ × ℕ) (i : Item) (left : List Envelope) → Each P (handshake_took_row n full name peer first i left).puts
+  took : (n : ℕ) (full : Bool) (name : ℕ) (peer : Handshake) (first : ℕ × ℕ) (i : Item) (left : List Envelope) → Each P (handshake_took_row n full name peer first i left).puts
   took n full name peer first (item.Acceptable true) left = tt
   took n full name peer first (item.Finished true) left = (tt, tt)
   took n true name peer first (item.Listen (Some key)) left = (tt, tt)
@@ -125,19 +125,20 @@ module _ (configs : List Config) (log : List Entry) (at seed : ℕ) where
   took n full name peer first (item.Finished false) left = tt
   took n full name peer first _ left = tt
 
-  turn : (n : ℕ) (full due : Bool) (name : ℕ) (peer : Peer) (xs : List Envelope) → Each P (handshake_turn n full due name peer xs).puts
-  turn n full true name peer [] = tt
-  turn n full false name peer [] = tt
-  turn n full due name peer (x ∷ xs) = took n full name peer (name_of x) x.item xs
+  turn : (n : ℕ) (full due : Bool) (name : ℕ) (o : Option Handshake) (xs : List Envelope) → Each P (handshake_turn n full due name o xs).puts
+  turn n full due name None xs = tt
+  turn n full true name (Some peer) [] = tt
+  turn n full false name (Some peer) [] = tt
+  turn n full due name (Some peer) (x ∷ xs) = took n full name peer (name_of x) x.item xs
 
   shaken : (h n : ℕ) → Each P (handshake_step_row configs log h n at).puts
   shaken h n =
       let r : Row = handshake_row configs log h n at in
-      each_dropping P log (cond (broke_off r.reply (map (λ x. x.item) (take 1 (line log (queue.Handshake n h)))) r.puts) (Some ((peer_at log h).link, side.In)) None) r (by (is_handshaking log n h))
+      each_dropping P log (cond (broke_off r.reply (map (λ x. x.item) (take 1 (line log (queue.Handshake n h)))) r.puts) (listening_end (came_over log h)) None) r (by (is_handshaking log n h))
     where
       by : (b : Bool) → Each P
-          (cond b (handshake_turn n (is_spawner_full configs log n) (is_due (handshake_deadline configs log h n) at (is_finished log n h)) h (peer_at log h) (line log (queue.Handshake n h))) (only reply.Gone)).puts
-      by true = turn n (is_spawner_full configs log n) (is_due (handshake_deadline configs log h n) at (is_finished log n h)) h (peer_at log h) (line log (queue.Handshake n h))
+          (cond b (handshake_turn n (is_spawner_full configs log n) (is_due (handshake_deadline configs log h n) at (is_finished log n h)) h (handshake_at log h) (line log (queue.Handshake n h))) (only reply.Gone)).puts
+      by true = turn n (is_spawner_full configs log n) (is_due (handshake_deadline configs log h n) at (is_finished log n h)) h (handshake_at log h) (line log (queue.Handshake n h))
       by false = tt
 
   -- ---- the end of an exchange
@@ -214,7 +215,7 @@ none_told configs log h n at = by (is_handshaking log n h)
     Aside : Row → Type 0
     Aside r = Each (λ x. goes_to (queue.Handshake n h) x ≡ false) r.puts
 
-    by_item : (full : Bool) (peer : Peer) (first : ℕ × ℕ) (i : Item) (left : List Envelope) → Aside (handshake_took_row n full h peer first i left)
+    by_item : (full : Bool) (peer : Handshake) (first : ℕ × ℕ) (i : Item) (left : List Envelope) → Aside (handshake_took_row n full h peer first i left)
     by_item full peer first (item.Acceptable true) left = tt
     by_item full peer first (item.Finished true) left = (refl, tt)
     by_item true peer first (item.Listen (Some key)) left = (refl, tt)
@@ -224,14 +225,15 @@ none_told configs log h n at = by (is_handshaking log n h)
     by_item full peer first (item.Finished false) left = tt
     by_item full peer first _ left = tt
 
-    by_turn : (full due : Bool) (peer : Peer) (xs : List Envelope) → Aside (handshake_turn n full due h peer xs)
-    by_turn full true peer [] = tt
-    by_turn full false peer [] = tt
-    by_turn full due peer (x ∷ xs) = by_item full peer (name_of x) x.item xs
+    by_turn : (full due : Bool) (o : Option Handshake) (xs : List Envelope) → Aside (handshake_turn n full due h o xs)
+    by_turn full due None xs = tt
+    by_turn full true (Some peer) [] = tt
+    by_turn full false (Some peer) [] = tt
+    by_turn full due (Some peer) (x ∷ xs) = by_item full peer (name_of x) x.item xs
 
     by : (b : Bool) → Aside
-        (cond b (handshake_turn n (is_spawner_full configs log n) (is_due (handshake_deadline configs log h n) at (is_finished log n h)) h (peer_at log h) (line log (queue.Handshake n h))) (only reply.Gone))
-    by true = by_turn (is_spawner_full configs log n) (is_due (handshake_deadline configs log h n) at (is_finished log n h)) (peer_at log h) (line log (queue.Handshake n h))
+        (cond b (handshake_turn n (is_spawner_full configs log n) (is_due (handshake_deadline configs log h n) at (is_finished log n h)) h (handshake_at log h) (line log (queue.Handshake n h))) (only reply.Gone))
+    by true = by_turn (is_spawner_full configs log n) (is_due (handshake_deadline configs log h n) at (is_finished log n h)) (handshake_at log h) (line log (queue.Handshake n h))
     by false = tt
 
 module _ (configs : List Config) (log : List Entry) (ev : Event) where

@@ -1,6 +1,5 @@
 -- What the items in queues say of links is true: to whom each leads that is on its way to be a connection.
-use Rattle.std.proofs.Common.{◌≡◌, ℕ, suc, ◌≤◌, true, List, [], ◌∷◌, ◌++◌, length, Some, ap, subst, ◌∙◌, arith, length-append}
-use Rattle.std.specs.List.{AllByRecursion as Each}
+use Rattle.std.proofs.Common.{◌≡◌, ℕ, suc, ◌≤◌, true, List, [], ◌∷◌, ◌++◌, length, Some, subst, ◌∙◌, arith, length-append}
 use Rattle.p2p_base.specs.declared.key.Key.{Key}
 use Rattle.p2p_log.specs.declared.config.Config.{Config}
 use Rattle.p2p_log.specs.declared.queue.Queue.{Queue}
@@ -15,21 +14,22 @@ use Rattle.p2p_log_rules.specs.declared.row.Opening.{Opening}
 use Rattle.p2p_log_rules.specs.Attempting.{Attempt, attempts_of}
 use Rattle.p2p_log_rules.specs.Effect.{effect}
 use Rattle.p2p_log_rules.specs.Facts.{key_at}
-use Rattle.p2p_log_rules.specs.Handshakes.{is_handshaking, peer_of, peer_at}
+use Rattle.p2p_log_rules.specs.Handshakes.{Handshake, handshake_at, is_handshaking}
 use Rattle.p2p_log_rules.specs.Links.{openings_of}
 use Rattle.p2p_log_rules.proofs.Moves.{one_taken, first_has}
-use Rattle.p2p_log_rules.proofs.TakenAt.{taken_at-longer}
+use Rattle.p2p_log_rules.proofs.HandshakeBegun.{handshake_at-longer}
 use Rattle.p2p_log_laws.specs.Leading.{Links, LeadsTo}
 use Rattle.p2p_log_laws.proofs.GoingOn.{GoesOn, goes_on}
 use Rattle.p2p_log_laws.proofs.Linking.{Links-longer, LeadsTo-longer}
+use Rattle.std.specs.List.{AllByRecursion as Each}
 
 -- the key is that of the node that dialed this one, which linked them
 abbrev pub ComesFrom : List Config → List Entry → ℕ → Key → ℕ → Type 0
 ComesFrom configs log n key link = (m : ℕ) × Links log link m n × (key ≡ key_at configs m)
 
--- the key is that of the peer of the handshake of an earlier name
+-- the key is that of the peer with which the handshake of this name began
 abbrev pub IsPeer : List Entry → ℕ → Key → Type 0
-IsPeer log h key = (suc h ≤ length log) × ((peer_at log h).key ≡ key)
+IsPeer log h key = (s : Handshake) × (handshake_at log h ≡ Some s) × (s.key ≡ key)
 
 -- the attempt was linked to the node that has its key
 pub record IsLinkedTo (configs : List Config) (log : List Entry) (n : ℕ) (a : Attempt) : Type 0 where
@@ -68,7 +68,7 @@ first_says configs log q x rest say first =
 
 -- the peer of each handshake that runs dialed its node
 abbrev pub PeersCome : List Config → List Entry → Type 0
-PeersCome configs log = (n h : ℕ) → is_handshaking log n h ≡ true → ComesFrom configs log n (peer_at log h).key (peer_at log h).link
+PeersCome configs log = (n h : ℕ) (s : Handshake) → is_handshaking log n h ≡ true → handshake_at log h ≡ Some s → ComesFrom configs log n s.key s.link
 
 -- a link over which keys are exchanged was made by this dial, of an attempt of an earlier name, which it answered
 pub record IsOpened (configs : List Config) (log : List Entry) (link : ℕ) (o : Opening) : Type 0 where
@@ -95,7 +95,7 @@ module _ (configs : List Config) (log : List Entry) (ev : Event) where
   comes_still n key link h = (h.0, Links-longer log (e ∷ []) link h.0 n h.1, h.2)
 
   peer_still : (h : ℕ) (key : Key) → IsPeer log h key → IsPeer longer h key
-  peer_still h key is = (early_still h is.0, ap (λ items. (peer_of items).key) (taken_at-longer log (e ∷ []) h is.0) ∙ is.1)
+  peer_still h key is = (is.0, handshake_at-longer log (e ∷ []) h is.0 is.1, is.2)
 
   linked_still : (n : ℕ) (a b : Attempt) → a.key ≡ b.key → ((link : ℕ) → b.answer ≡ Some link → a.answer ≡ Some link) → IsLinkedTo configs log n b → IsLinkedTo configs longer n a
   linked_still n a b key answer h = record { link = h.link; to = h.to; answer = answer h.link h.answer; links = Links-longer log (e ∷ []) h.link n h.to h.links; key = key ∙ h.key }

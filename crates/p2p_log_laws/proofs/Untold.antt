@@ -1,14 +1,11 @@
 -- A handshake that has not begun took nothing.
-use Rattle.std.proofs.Common.{◌≡◌, ℕ, ◌+◌, ◌≤◌, Bool, true, false, cond, List, [], ◌∷◌, ◌++◌, length, refl, ap, ◌∙◌, arith, length-append, ◌⊎◌, inl, inr}
-use Rattle.std.proofs.lemmas.Bool.{and_parts}
-use Rattle.p2p_log_rules.proofs.Bools.{and_false}
+use Rattle.std.proofs.Common.{◌≡◌, ℕ, ◌+◌, ◌≤◌, Bool, false, cond, List, [], ◌∷◌, ◌++◌, length, refl, ap, ◌∙◌, arith, length-append, ◌⊎◌, inl, inr}
 use Rattle.p2p_log.specs.declared.config.Config.{Config}
 use Rattle.p2p_log.specs.declared.queue.Queue.TheVariants as queue
 use Rattle.p2p_log.specs.declared.item.Item.{Item}
 use Rattle.p2p_log.specs.declared.item.Envelope.{Envelope}
 use Rattle.p2p_log.specs.declared.entry.Entry.{Entry}
 use Rattle.p2p_log.specs.declared.entry.Reply.TheVariants as reply
-use Rattle.p2p_log.specs.declared.event.Act.{Act}
 use Rattle.p2p_log.specs.declared.event.Act.TheVariants as act
 use Rattle.p2p_log.specs.declared.event.Event.{Event}
 use Rattle.p2p_log.specs.Lines.{line}
@@ -16,7 +13,7 @@ use Rattle.p2p_log_rules.specs.declared.row.Row.{Row}
 use Rattle.p2p_log_rules.specs.Dropping.{handshake_drops, handshake_step_row}
 use Rattle.p2p_log_rules.specs.Effect.{effect, entry_of, row}
 use Rattle.p2p_log_rules.specs.Facts.{taken}
-use Rattle.p2p_log_rules.specs.Handshakes.{is_handshaking, is_finished, peer_at, has_taken}
+use Rattle.p2p_log_rules.specs.Handshakes.{handshake_at, came_over, is_handshaking, is_finished, has_taken}
 use Rattle.p2p_log_rules.specs.Handshaking.{handshake_deadline, is_due, handshake_turn}
 use Rattle.p2p_log_rules.specs.Lawful.{IsLawful}
 use Rattle.p2p_log_rules.specs.Rows.{only, is_spawner_full}
@@ -37,7 +34,7 @@ module _ (test : List Item → Bool) (none : test [] ≡ false) (configs : List 
   gone_row log at ended =
       let waiting : List Envelope = line log (queue.Handshake n name) in
       let due : Bool = is_due (handshake_deadline configs log name n) at (is_finished log n name) in
-      ap (λ b. handshake_drops log (peer_at log name).link waiting (cond b (handshake_turn n (is_spawner_full configs log n) due name (peer_at log name) waiting) (only reply.Gone))) ended
+      ap (λ b. handshake_drops log (came_over log name) waiting (cond b (handshake_turn n (is_spawner_full configs log n) due name (handshake_at log name) waiting) (only reply.Gone))) ended
 
   took_none : (log : List Entry) (ev : Event) (r : Row) → r ≡ only reply.Gone → test (taken log (entry_of ev r)) ≡ false
   took_none log ev r is =

@@ -122,7 +122,7 @@ module _ (log : List Entry) (e : Entry) (n : ℕ) where
       rest =
           messages_stop (told log) n (line log (queue.Spawner n))
           ++ (arrivals_stop (line log (queue.Arrivals n))
-          ++ (flat_map (attempt_stops (told log) n) (attempts_in (told log) n) ++ (flat_map (handshake_stops log n) (handshakes_in (told log) n) ++ flat_map (connection_stops (told log) n) (connections_in (told log) n))))
+          ++ (flat_map (attempt_stops (told log) n) (attempts_in (told log) n) ++ (flat_map (handshake_stops (told log) n) (handshakes_in (told log) n) ++ flat_map (connection_stops (told log) n) (connections_in (told log) n))))
 
   pub is_stopped-append : is_stopped (log ++ e ∷ []) n ≡ (is_stopped log n || list_any (stops_node n) (tells (told log) log e))
   unfolding is_stopped

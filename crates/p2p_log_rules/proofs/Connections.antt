@@ -26,7 +26,7 @@ use Rattle.p2p_log_rules.specs.Spawning.{Spawned, connections_of}
 use Rattle.p2p_log_rules.specs.Tellings.{Telling, last_or}
 use Rattle.p2p_log_rules.specs.Tellings as telling
 use Rattle.p2p_log_rules.specs.HalfSteps.{puts_ping}
-use Rattle.p2p_log_rules.specs.Told.{half_to_be, messages_stop, arrivals_stop, attempts_in, attempt_stops, handshakes_in, handshake_stops, made_in, connections_in, connection_stops, stop_tells, link_in, half_dropped, listening_dropped, dialing_dropped, when, done_tells, sender_tells, admitted_tells, act_tells, tells, told}
+use Rattle.p2p_log_rules.specs.Told.{half_to_be, messages_stop, arrivals_stop, attempts_in, attempt_stops, handshakes_in, handshake_stops, made_in, connections_in, connection_stops, stop_tells, link_in, handshake_in, link_over, half_dropped, listening_dropped, dialing_dropped, when, done_tells, sender_tells, admitted_tells, act_tells, tells, told}
 use Rattle.p2p_log_rules.proofs.Dialed.{dialer_of-longer}
 use Rattle.p2p_log_rules.proofs.TellingKinds.{Kind}
 use Rattle.p2p_log_rules.proofs.TellingKinds as kind
@@ -201,7 +201,7 @@ pub record IsEndOf (e : Entry) (n conn : ℕ) : Type 0 where
 -- of the things of a node that a stop tells of, this is a connection
 module _ (ts : List Telling) (log : List Entry) (n conn : ℕ) where
   abbrev others_ended : List Telling
-  others_ended = flat_map (attempt_stops ts n) (attempts_in ts n) ++ flat_map (handshake_stops log n) (handshakes_in ts n)
+  others_ended = flat_map (attempt_stops ts n) (attempts_in ts n) ++ flat_map (handshake_stops ts n) (handshakes_in ts n)
 
   each_silent : {X : Type 0} (f : X → List Telling) → ((x : X) → list_any (is_over n conn) (f x) ≡ false) → (xs : List X) → list_any (is_over n conn) (flat_map f xs) ≡ false
   each_silent f h [] = refl
@@ -238,7 +238,7 @@ module _ (ts : List Telling) (log : List Entry) (n conn : ℕ) where
       let messages = messages_stop ts n (line log (queue.Spawner n)) in
       let arrivals = arrivals_stop (line log (queue.Arrivals n)) in
       let attempts = flat_map (attempt_stops ts n) (attempts_in ts n) in
-      let handshakes = flat_map (handshake_stops log n) (handshakes_in ts n) in
+      let handshakes = flat_map (handshake_stops ts n) (handshakes_in ts n) in
       let connections = flat_map (connection_stops ts n) (connections_in ts n) in
       among (connections_in ts n)
       (sym (list_any-append (is_over n conn) messages (arrivals ++ (attempts ++ (handshakes ++ connections)))
@@ -248,7 +248,7 @@ module _ (ts : List Telling) (log : List Entry) (n conn : ℕ) where
       ∙ (list_any-append (is_over n conn) attempts (handshakes ++ connections)
       ∙ (ap (λ b. b || list_any (is_over n conn) (handshakes ++ connections)) (each_silent (attempt_stops ts n) (λ k. dialing_silent (link_in ts n k)) (attempts_in ts n))
       ∙ (list_any-append (is_over n conn) handshakes connections
-      ∙ ap (λ b. b || list_any (is_over n conn) connections) (each_silent (handshake_stops log n) (λ k. refl) (handshakes_in ts n)))))))))
+      ∙ ap (λ b. b || list_any (is_over n conn) connections) (each_silent (handshake_stops ts n) (λ k. listening_silent (link_over (handshake_in ts k))) (handshakes_in ts n)))))))))
       ∙ h)
 
 -- a connection that is made has a name

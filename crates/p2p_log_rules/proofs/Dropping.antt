@@ -19,11 +19,11 @@ use Rattle.p2p_log.specs.declared.event.Act.{Act}
 use Rattle.p2p_log.specs.declared.event.Act.TheVariants as act
 use Rattle.p2p_log_rules.specs.declared.row.Half.{Half}
 use Rattle.p2p_log_rules.specs.Connections.{half_at, is_done, is_end}
-use Rattle.p2p_log_rules.specs.Dropping.{LinkEnd, is_side, drops, is_dropped, drop_in, drops_in, drops_of, dialing_end, arrival_end, half_end}
+use Rattle.p2p_log_rules.specs.Dropping.{LinkEnd, is_side, drops, is_dropped, drop_in, drops_in, drops_of, dialing_end, listening_end, arrival_end, half_end}
 use Rattle.p2p_log_rules.specs.Facts.{taken, state_from}
 use Rattle.p2p_log_rules.specs.HalfSteps.{puts_ping, holds}
 use Rattle.p2p_log_rules.specs.Halves.{half_in}
-use Rattle.p2p_log_rules.specs.Handshakes.{ends_handshake, peer_at}
+use Rattle.p2p_log_rules.specs.Handshakes.{ends_handshake, came_over}
 use Rattle.p2p_log_rules.specs.Puts.{is_spawn, gave_up, broke_off, is_answer, turns_away, arrival_link}
 use Rattle.p2p_log_rules.specs.Spawning.{connections_of}
 use Rattle.p2p_log_rules.specs.Tellings.{Telling}
@@ -129,27 +129,31 @@ drops_before : (ts us : List Telling) → drops_in us ≡ [] → drops_in (ts ++
 drops_before ts us none = drops_in-append ts us ∙ (ap (λ l. drops_in ts ++ l) none ∙ append-nil (drops_in ts))
 
 -- what a handshake tells besides
-handshake_drops : (n h over : ℕ) (ended broke : Bool) (link : ℕ) (items : List Item)
-    → drops_in (handshake_tells n h over ended items ++ when broke (telling.end_dropped link side.In ∷ [])) ≡ all_of (cond broke (Some (link, side.In)) None)
-handshake_drops n h over true true link items = refl
-handshake_drops n h over true false link items = refl
-handshake_drops n h over false true link items = refl
-handshake_drops n h over false false link items = refl
+handshake_drops : (n h : ℕ) (link : Option ℕ) (ended broke : Bool) (items : List Item)
+    → drops_in (handshake_tells n h link ended items ++ when broke (listening_dropped link)) ≡ all_of (cond broke (listening_end link) None)
+handshake_drops n h None true true items = refl
+handshake_drops n h (Some link) true true items = refl
+handshake_drops n h link true false items = refl
+handshake_drops n h None false true items = refl
+handshake_drops n h (Some link) false true items = refl
+handshake_drops n h link false false items = refl
 
 -- what a listener tells besides
-arrival_drops : (n name : ℕ) (r : Reply) (items : List Item) → drops_in (arrival_tells n (admitted_as name r) items ++ (begun_tells n (admitted_as name r) ++ gates_tell r items)) ≡ drops_in (gates_tell r items)
-arrival_drops n name r items =
-    drops_in-append (arrival_tells n (admitted_as name r) items) (begun_tells n (admitted_as name r) ++ gates_tell r items)
-    ∙ (ap (λ l. l ++ drops_in (begun_tells n (admitted_as name r) ++ gates_tell r items)) (arrives items)
-    ∙ (drops_in-append (begun_tells n (admitted_as name r)) (gates_tell r items) ∙ ap (λ l. l ++ drops_in (gates_tell r items)) (begins (admitted_as name r))))
+arrival_drops : (n name at : ℕ) (r : Reply) (items : List Item)
+    → drops_in (arrival_tells n (admitted_as name r) items ++ (begun_tells n at (admitted_as name r) items ++ gates_tell r items)) ≡ drops_in (gates_tell r items)
+arrival_drops n name at r items =
+    drops_in-append (arrival_tells n (admitted_as name r) items) (begun_tells n at (admitted_as name r) items ++ gates_tell r items)
+    ∙ (ap (λ l. l ++ drops_in (begun_tells n at (admitted_as name r) items ++ gates_tell r items)) (arrives items)
+    ∙ (drops_in-append (begun_tells n at (admitted_as name r) items) (gates_tell r items) ∙ ap (λ l. l ++ drops_in (gates_tell r items)) (begins (admitted_as name r) items)))
   where
     arrives : (items : List Item) → drops_in (arrival_tells n (admitted_as name r) items) ≡ []
     arrives (item.Arrival from key link ∷ items) = refl
     arrives _ = refl
 
-    begins : (o : Option ℕ) → drops_in (begun_tells n o) ≡ []
-    begins None = refl
-    begins (Some h) = refl
+    begins : (o : Option ℕ) (items : List Item) → drops_in (begun_tells n at o items) ≡ []
+    begins (Some h) (item.Arrival from key link ∷ items) = refl
+    begins (Some h) _ = refl
+    begins None items = refl
 
 turned_drops : (b : Bool) (o : Option ℕ) → drops_in (when b (listening_dropped o)) ≡ all_of (cond b (option_map (λ l. (l, side.In)) o) None)
 turned_drops true None = refl
@@ -170,10 +174,10 @@ module _ (log : List Entry) (e : Entry) where
       ∙ (drops_in-append (took_tells n k e.event.at e.event.seed (taken log e)) (left_tells n k (link_in (told log) n k) e.puts)
       ∙ (ap (λ l. l ++ drops_in (left_tells n k (link_in (told log) n k) e.puts)) (took_drops n k e.event.at e.event.seed (taken log e)) ∙ left_drops n k (link_in (told log) n k) e.puts))
 
-  pub drops_of-handshake : (h n : ℕ) → e.event.act ≡ act.Handshake h n → drops_of log e ≡ all_of (cond (broke_off e.reply (taken log e) e.puts) (Some ((peer_at log h).link, side.In)) None)
+  pub drops_of-handshake : (h n : ℕ) → e.event.act ≡ act.Handshake h n → drops_of log e ≡ all_of (cond (broke_off e.reply (taken log e) e.puts) (listening_end (came_over log h)) None)
   drops_of-handshake h n is =
       tells_act (act.Handshake h n) is
-      ∙ handshake_drops n h (peer_at log h).link (ends_handshake e.reply (taken log e)) (broke_off e.reply (taken log e) e.puts) (peer_at log h).link (taken log e)
+      ∙ handshake_drops n h (came_over log h) (ends_handshake e.reply (taken log e)) (broke_off e.reply (taken log e) e.puts) (taken log e)
 
   pub drops_of-send : (conn n : ℕ) → e.event.act ≡ act.SendStep conn n → drops_of log e ≡ all_of (cond (is_end e.reply) (half_end (half_at log n conn)) None)
   unfolding half_at connections_of
@@ -193,8 +197,8 @@ module _ (log : List Entry) (e : Entry) where
   pub drops_of-listener : (n : ℕ) → e.event.act ≡ act.Listener n → drops_of log e ≡ all_of (cond (turns_away e.reply) (arrival_end (taken log e)) None)
   drops_of-listener n is =
       tells_act (act.Listener n) is
-      ∙ (drops_before (arrival_tells n (admitted_as (length log) e.reply) (taken log e) ++ (begun_tells n (admitted_as (length log) e.reply) ++ gates_tell e.reply (taken log e))) (heard_tells n e.event.at e.reply (taken log e)) (heard_drops n e.event.at e.reply (taken log e))
-      ∙ (arrival_drops n (length log) e.reply (taken log e) ∙ turned_drops (turns_away e.reply) (arrival_link (taken log e))))
+      ∙ (drops_before (arrival_tells n (admitted_as (length log) e.reply) (taken log e) ++ (begun_tells n e.event.at (admitted_as (length log) e.reply) (taken log e) ++ gates_tell e.reply (taken log e))) (heard_tells n e.event.at e.reply (taken log e)) (heard_drops n e.event.at e.reply (taken log e))
+      ∙ (arrival_drops n (length log) e.event.at e.reply (taken log e) ∙ turned_drops (turns_away e.reply) (arrival_link (taken log e))))
 
 -- where no end is told of, none is dropped
 none_dropped : (ts : List Telling) → list_any is_drop ts ≡ false → drops_in ts ≡ []

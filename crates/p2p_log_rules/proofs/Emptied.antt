@@ -5,7 +5,6 @@ use Rattle.std.specs.List.{AllByRecursion as Each}
 use Rattle.p2p_log.specs.declared.queue.Queue.{Queue}
 use Rattle.p2p_log.specs.declared.queue.Queue.TheVariants as queue
 use Rattle.p2p_log.specs.declared.queue.Side.{Side}
-use Rattle.p2p_log.specs.declared.queue.Side.TheVariants as side
 use Rattle.p2p_log.specs.declared.item.Item.{Item}
 use Rattle.p2p_log.specs.declared.item.Envelope.{Envelope}
 use Rattle.p2p_log.specs.declared.entry.Entry.{Entry}
@@ -13,8 +12,8 @@ use Rattle.p2p_log.specs.Lines.{line}
 use Rattle.p2p_log.proofs.Each.{Each-append}
 use Rattle.p2p_log_rules.specs.declared.row.Half.{Half}
 use Rattle.p2p_log_rules.specs.Connections.{half_at}
-use Rattle.p2p_log_rules.specs.Dropping.{LinkEnd, other_side, dialing_end, arrival_end, half_end}
-use Rattle.p2p_log_rules.specs.Handshakes.{handshakes_of, peer_at}
+use Rattle.p2p_log_rules.specs.Dropping.{LinkEnd, other_side, dialing_end, listening_end, arrival_end, half_end}
+use Rattle.p2p_log_rules.specs.Handshakes.{handshakes_of, came_over}
 use Rattle.p2p_log_rules.specs.Stopping.{towards, brought_to, brought_by, with_attempt, with_handshake, with_half, queues_at, emptied_at}
 use Rattle.p2p_log_rules.specs.Told.{told, half_to_be, attempts_in, connections_in}
 
@@ -67,7 +66,7 @@ module _ (log : List Entry) (n : ℕ) (P : Queue → Type 0) (kinds : OfKinds n 
                   (flat_map (with_handshake log n) (handshakes_of log n) ++ flat_map (λ conn. with_half n conn (half_at log n conn)) (connections_in (told log) n))
                   (each_of (with_attempt log n) (λ k. (kinds.attempt k, each_towards (dialing_end log n k))) (attempts_in (told log) n))
                   (Each-append P (flat_map (with_handshake log n) (handshakes_of log n)) (flat_map (λ conn. with_half n conn (half_at log n conn)) (connections_in (told log) n))
-                  (each_of (with_handshake log n) (λ h. (kinds.handshake h, each_towards (Some ((peer_at log h).link, side.In)))) (handshakes_of log n))
+                  (each_of (with_handshake log n) (λ h. (kinds.handshake h, each_towards (listening_end (came_over log h)))) (handshakes_of log n))
                   (each_of (λ conn. with_half n conn (half_at log n conn)) (λ conn. each_half conn (half_at log n conn)) (connections_in (told log) n))),
             ),
           ),

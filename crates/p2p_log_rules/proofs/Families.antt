@@ -38,7 +38,7 @@ telling_kind (telling.connection_made m k key link) = kind.connection_made
 telling_kind (telling.channel_registered m c rate) = kind.channel_registered
 telling_kind (telling.exchange_ended link) = kind.exchange_ended
 telling_kind (telling.arrival_taken m link handshake) = kind.arrival_taken
-telling_kind (telling.handshake_begun m h) = kind.handshake_begun
+telling_kind (telling.handshake_begun m h from key link at) = kind.handshake_begun
 telling_kind (telling.handshake_took m h items) = kind.handshake_took
 telling_kind (telling.handshake_ended m h link) = kind.handshake_ended
 telling_kind (telling.half_stepped m conn) = kind.half_stepped
@@ -126,7 +126,7 @@ within name at (act.SendStep conn m) = (record { over = refl; drops = λ link s.
 within name at (act.RecvStep conn m) = (record { over = refl; drops = λ link s. refl }, λ i. refl)
 within name at (act.Close c m) = refl
 within name at (act.Dialer m) = record { list = λ asked seed next peers. refl; answer = refl; begun = λ key ingress. refl; due = refl; dials = refl; asks = refl }
-within name at (act.Listener m) = (record { took = λ link handshake. refl; begun = refl; drops = λ link. refl }, record { update = λ addresses. refl; arrival = λ from g. refl })
+within name at (act.Listener m) = (record { took = λ link handshake. refl; begun = λ from key link. refl; drops = λ link. refl }, record { update = λ addresses. refl; arrival = λ from g. refl })
 within name at (act.Handshake e m) = record { took = λ items. refl; over = λ link. refl; drops = λ link. refl }
 within name at (act.Spawner m) = λ key link. refl
 within name at (act.Attempt e m) = record { addresses = λ seed addresses. refl; link = refl; ended = refl; drops = λ link. refl }

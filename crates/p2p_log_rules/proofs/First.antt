@@ -1,11 +1,10 @@
 -- The step of each actor is what it makes of its first input.
 use Rattle.std.proofs.Common.{◌≡◌, ℕ, zero, suc, Bool, true, false, cond, List, [], ◌∷◌, ◌++◌, length, refl, ap, ◌∙◌, arith, Option, Some, None}
-use Rattle.std.specs.Prelude.{◌&&◌, not, map, nat_le, nat_lt, take}
+use Rattle.std.specs.Prelude.{◌&&◌, not, nat_le, nat_lt, take}
 use Rattle.std.proofs.lemmas.Bool.Decides.{nat_tests}
 use Rattle.std.proofs.lemmas.Option.{same_Some}
 use Rattle.p2p_log.specs.declared.config.Config.{Config}
 use Rattle.p2p_log.specs.declared.queue.Queue.TheVariants as queue
-use Rattle.p2p_log.specs.declared.queue.Side.TheVariants as side
 use Rattle.p2p_log.specs.declared.item.Item.{Item}
 use Rattle.p2p_log.specs.declared.item.Item.TheVariants as item
 use Rattle.p2p_log.specs.declared.item.Envelope.{Envelope}
@@ -28,13 +27,13 @@ use Rattle.p2p_log_rules.specs.Effect as effect
 use Rattle.p2p_log_rules.specs.Ending.{end_row}
 use Rattle.p2p_log_rules.specs.Facts.{channels, capacity_in, is_up}
 use Rattle.p2p_log_rules.specs.First.{Actor, tracker, router, spawner, dialer, listener, attempt, handshake, sender, receiver, actor_of, Input, takes, due, begins, fault, first_of, ready, oldest_of, only_where, attempt_due, is_admitted, link_inputs, held_inputs, stands, has_half, acts, first_input, by_input, step_row}
-use Rattle.p2p_log_rules.specs.Handshakes.{is_handshaking, is_finished, peer_at}
+use Rattle.p2p_log_rules.specs.Handshakes.{Handshake, handshake_at, came_over, is_handshaking, is_finished}
 use Rattle.p2p_log_rules.specs.Handshaking.{handshake_deadline, is_due, handshake_turn, handshake_row}
 use Rattle.p2p_log_rules.specs.Listening.{gate_rules_at, known_of, has_place, listener_turn, listener_row}
 use Rattle.p2p_log_rules.specs.Metering.{messages, may_pass}
 use Rattle.p2p_log_rules.specs.Pings.{ping_is_due}
-use Rattle.p2p_log_rules.specs.Puts.{gave_up, broke_off, turns_away}
 use Rattle.p2p_log_rules.specs.Rows.{only, is_spawner_full, takes_oldest}
+use Rattle.p2p_log_rules.proofs.HandshakeBegun.{handshaking_begun}
 use Rattle.p2p_log_rules.specs.Serving.{tracker_serves, router_serves, spawner_serves, dialer_serves, listener_serves, attempt_serves, handshake_serves, sender_serves, receiver_serves, actor_row}
 use Rattle.p2p_log_rules.specs.Spawning.{spawner_row}
 use Rattle.p2p_log_rules.specs.TrackerPuts.{is_some_of, unblocked_puts}
@@ -117,16 +116,19 @@ module _ (configs : List Config) (log : List Entry) (at seed n : ℕ) where
       by full private (Some a) (x ∷ xs) = refl
 
   handshake_turn-first : (h : ℕ) → handshake_row configs log h n at
-      ≡ step_row configs log at (handshake n h) (handshake_serves n (is_spawner_full configs log n) h (peer_at log h))
+      ≡ step_row configs log at (handshake n h) (handshake_serves n (is_spawner_full configs log n) h (handshake_at log h))
   handshake_turn-first h =
-      by (is_spawner_full configs log n) (is_handshaking log n h) (is_due (handshake_deadline configs log h n) at (is_finished log n h)) (line log (queue.Handshake n h))
+      by (is_spawner_full configs log n) (is_handshaking log n h) (is_due (handshake_deadline configs log h n) at (is_finished log n h)) (handshake_at log h) (line log (queue.Handshake n h))
+      (handshaking_begun log n h)
     where
-      by : (full runs b : Bool) (xs : List Envelope) → cond runs (handshake_turn n full b h (peer_at log h) xs) (only reply.Gone)
-          ≡ cond runs (by_input (handshake_serves n full h (peer_at log h)) (first_of (oldest_of (queue.Handshake n h) xs ∷ ready b due ∷ []))) (only reply.Gone)
-      by full false b xs = refl
-      by full true true [] = refl
-      by full true false [] = refl
-      by full true b (x ∷ xs) = refl
+      -- one that runs has begun
+      by : (full runs b : Bool) (o : Option Handshake) (xs : List Envelope) → (runs ≡ true → (s : Handshake) × (o ≡ Some s)) → cond runs (handshake_turn n full b h o xs) (only reply.Gone)
+          ≡ cond runs (by_input (handshake_serves n full h o) (first_of (oldest_of (queue.Handshake n h) xs ∷ ready b due ∷ []))) (only reply.Gone)
+      by full false b o xs begun = refl
+      by full true b None xs begun = let t : None ≡ Some (begun refl).0 = (begun refl).1 in cc
+      by full true true (Some s) [] begun = refl
+      by full true false (Some s) [] begun = refl
+      by full true b (Some s) (x ∷ xs) begun = refl
 
 -- ---- with the end of a link of which a step lets go
 
@@ -151,9 +153,9 @@ module _ (configs : List Config) (log : List Entry) (at seed n : ℕ) where
 
   pub handshake_row-first : (h : ℕ) → handshake_step_row configs log h n at ≡ actor_row configs log at seed (handshake n h)
   handshake_row-first h =
-      let drops : Row → Row = handshake_drops log (peer_at log h).link (line log (queue.Handshake n h)) in
+      let drops : Row → Row = handshake_drops log (came_over log h) (line log (queue.Handshake n h)) in
       ap drops (handshake_turn-first configs log at seed n h)
-      ∙ drops_first drops refl refl (acts configs log (handshake n h)) (handshake_serves n (is_spawner_full configs log n) h (peer_at log h)) (first_input configs log at (handshake n h))
+      ∙ drops_first drops refl refl (acts configs log (handshake n h)) (handshake_serves n (is_spawner_full configs log n) h (handshake_at log h)) (first_input configs log at (handshake n h))
 
 -- ---- the halves of a connection
 

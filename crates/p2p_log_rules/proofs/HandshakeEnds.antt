@@ -6,15 +6,15 @@ use Rattle.std.proofs.lemmas.List.Folds.{list_any-append}
 use Rattle.p2p_log_rules.proofs.Bools.{or_true}
 use Rattle.p2p_log.specs.declared.entry.Entry.{Entry}
 use Rattle.p2p_log_rules.specs.declared.row.ListeningEnd.TheVariants as listening
-use Rattle.p2p_log_rules.specs.Facts.{taken, with_named}
-use Rattle.p2p_log_rules.specs.Handshakes.{ends_handshake, handshakes_of, is_handshaking, peer_of, peer_at}
+use Rattle.p2p_log_rules.specs.Facts.{taken}
+use Rattle.p2p_log_rules.specs.Handshakes.{ends_handshake, handshakes_of, is_handshaking, came_over}
 use Rattle.p2p_log_rules.specs.Links.{listening_ends_of}
-use Rattle.p2p_log_rules.specs.Told.{admitted_as}
-use Rattle.p2p_log_rules.proofs.Handshakes.{Begins, Ends, Stops, handshakes_of-listened, handshakes_now, is_among, among-without, handshaking_early}
+use Rattle.p2p_log_rules.specs.Told.{link_over, admitted_as}
+use Rattle.p2p_log_rules.proofs.HandshakeBegun.{handshake_at-kept, handshake_at-begun}
+use Rattle.p2p_log_rules.proofs.Handshakes.{Begins, Ends, Stops, begun_with, handshakes_of-listened, handshakes_now, is_among, among-without, handshaking_early}
 use Rattle.p2p_log_rules.proofs.Ignoring.{by_entries}
-use Rattle.p2p_log_rules.proofs.Links.{Takes, listening_ends_of-stopped, listening_ends_of-shaken, end_now, listening_ends_of-none}
+use Rattle.p2p_log_rules.proofs.Links.{Takes, without_end, listening_ends_of-stopped, listening_ends_of-shaken, end_now, listening_ends_of-none}
 use Rattle.p2p_log_rules.proofs.Standing.{started}
-use Rattle.p2p_log_rules.proofs.TakenAt.{taken_at-longer, taken_at-last}
 
 -- one that has begun stands among these with another
 pub among_more : (h m : ℕ) (names : List ℕ) → is_among h names ≡ true → is_among h (names ++ m ∷ []) ≡ true
@@ -25,7 +25,7 @@ among_last h m names is =
     list_any-append (λ k. h == k) names (m ∷ []) ∙ (ap (λ b. list_any (λ k. h == k) names || (b || false)) (eq-eqb h m is) ∙ or_true (list_any (λ k. h == k) names))
 
 abbrev pub Leads : ℕ → List Entry → Type 0
-Leads n log = (link h : ℕ) → listening_ends_of log n link ≡ Some (listening.Handshake h) → (is_handshaking log n h ≡ true) × ((peer_at log h).link ≡ link)
+Leads n log = (link h : ℕ) → listening_ends_of log n link ≡ Some (listening.Handshake h) → (is_handshaking log n h ≡ true) × (came_over log h ≡ Some link)
 
 module _ (n : ℕ) (log : List Entry) (e : Entry) (leads : Leads n log) where
   abbrev longer : List Entry
@@ -44,12 +44,12 @@ module _ (n : ℕ) (log : List Entry) (e : Entry) (leads : Leads n log) where
       other : (ends : Ends log e n) → (b : Bool) → (h == ends.name) ≡ b → b ≡ false
       other ends false differ = refl
       other ends true same =
-          let over : (peer_at log ends.name).link ≡ link = ap (λ k. (peer_at log k).link) (sym (eqb-true h ends.name same)) ∙ (leads link h old).1 in
+          let over : came_over log ends.name ≡ Some link = ap (came_over log) (sym (eqb-true h ends.name same)) ∙ (leads link h old).1 in
           let gone : listening_ends_of longer n link ≡ None =
           listening_ends_of-shaken log e n ends.name n ends.acts link
-          ∙ (ap (λ b. cond b (cond (ends_handshake e.reply (taken log e)) (with_named (peer_at log ends.name).link None (listening_ends_of log n) link) (listening_ends_of log n link)) (listening_ends_of log n link)) (eq-eqb n n refl)
-          ∙ (ap (λ b. cond b (with_named (peer_at log ends.name).link None (listening_ends_of log n) link) (listening_ends_of log n link)) ends.over
-          ∙ ap (λ b. cond b None (listening_ends_of log n link)) (eq-eqb link (peer_at log ends.name).link (sym over))))
+          ∙ (ap (λ b. cond b (cond (ends_handshake e.reply (taken log e)) (without_end (came_over log ends.name) (listening_ends_of log n) link) (listening_ends_of log n link)) (listening_ends_of log n link)) (eq-eqb n n refl)
+          ∙ (ap (λ b. cond b (without_end (came_over log ends.name) (listening_ends_of log n) link) (listening_ends_of log n link)) ends.over
+          ∙ (ap (λ o. without_end o (listening_ends_of log n) link) over ∙ ap (λ b. cond b None (listening_ends_of log n link)) (eq-eqb link link refl))))
           in
           let t : None ≡ Some (listening.Handshake h) = sym gone ∙ is in
           cc
@@ -63,13 +63,17 @@ module _ (n : ℕ) (log : List Entry) (e : Entry) (leads : Leads n log) where
   more : Leads n longer
   more link h is = by (end_now log e n link h is)
     where
-      by : (listening_ends_of log n link ≡ Some (listening.Handshake h)) ⊎ Takes log e n link h → (is_handshaking longer n h ≡ true) × ((peer_at longer h).link ≡ link)
+      by : (listening_ends_of log n link ≡ Some (listening.Handshake h)) ⊎ Takes log e n link h → (is_handshaking longer n h ≡ true) × (came_over longer h ≡ Some link)
       by (inl old) =
           let was = leads link h old in
-          (still link h is old, ap (λ items. (peer_of items).link) (taken_at-longer log (e ∷ []) h (handshaking_early log n h was.0)) ∙ was.1)
+          (still link h is old, ap link_over (handshake_at-kept log e h (handshaking_early log n h was.0)) ∙ was.1)
       by (inr new) = (
-        ap (is_among h) (handshakes_of-listened log e n new.acts ∙ ap (λ r. names ++ started (admitted_as (length log) r)) new.told) ∙ among_last h (length log) names new.named,
-        ap (λ k. (peer_at longer k).link) new.named ∙ ap (λ items. (peer_of items).link) (taken_at-last log e ∙ new.took),
+        ap (is_among h)
+            (handshakes_of-listened log e n new.acts
+            ∙ (ap (λ r. names ++ started (begun_with (admitted_as (length log) r) (taken log e))) new.told
+            ∙ ap (λ items. names ++ started (begun_with (Some (length log)) items)) new.took))
+            ∙ among_last h (length log) names new.named,
+        ap (came_over longer) new.named ∙ ap link_over (handshake_at-begun log e n new.from new.key link new.rest new.acts new.told new.took),
       )
 
 pub ends_lead : (log : List Entry) (n : ℕ) → Leads n log

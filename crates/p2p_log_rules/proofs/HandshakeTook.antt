@@ -1,20 +1,19 @@
 -- What handshakes took, after one more entry.
-use Rattle.std.proofs.Common.{◌≡◌, ℕ, Bool, true, false, List, [], ◌∷◌, ◌++◌, refl, ap, sym, ◌∙◌, eq-eqb, eqb-true, ◌⊎◌, inl, inr}
+use Rattle.std.proofs.Common.{◌≡◌, ℕ, Bool, true, false, List, [], ◌∷◌, ◌++◌, refl, ap, sym, ◌∙◌, eq-eqb, eqb-true, Option, Some, None, ◌⊎◌, inl, inr}
 use Rattle.std.specs.Prelude.{◌==◌, ◌&&◌, ◌||◌}
 use Rattle.std.specs.List.{list_any}
 use Rattle.std.proofs.lemmas.Bool.{and_parts}
 use Rattle.p2p_log_rules.proofs.Bools.{or_false}
-use Rattle.p2p_log.specs.declared.queue.Side.TheVariants as side
 use Rattle.p2p_log.specs.declared.item.Item.{Item}
 use Rattle.p2p_log.specs.declared.entry.Entry.{Entry}
 use Rattle.p2p_log.specs.declared.event.Act.{Act}
 use Rattle.p2p_log.specs.declared.event.Act.TheVariants as act
 use Rattle.p2p_log_rules.specs.Facts.{taken, state_from}
-use Rattle.p2p_log_rules.specs.Handshakes.{ends_handshake, peer_at, takes_such, has_taken}
+use Rattle.p2p_log_rules.specs.Handshakes.{ends_handshake, came_over, takes_such, has_taken}
 use Rattle.p2p_log_rules.specs.Puts.{broke_off}
 use Rattle.p2p_log_rules.specs.Tellings.{Telling, any_or}
 use Rattle.p2p_log_rules.specs.Tellings as telling
-use Rattle.p2p_log_rules.specs.Told.{when, handshake_tells, tells, told}
+use Rattle.p2p_log_rules.specs.Told.{when, listening_dropped, handshake_tells, tells, told}
 use Rattle.p2p_log_rules.proofs.TellingKinds.{Kind}
 use Rattle.p2p_log_rules.proofs.TellingKinds as kind
 use Rattle.p2p_log_rules.proofs.Families.{telling_kind, kinds_of, has, are_apart, untold_of}
@@ -70,16 +69,17 @@ module _ (test : List Item → Bool) (log : List Entry) (e : Entry) (n name : �
   took_step : (b : Bool) → e.event.act ≡ act.Handshake name n → any_or b (takes_such test n name) (tells (told log) log e) ≡ (test (taken log e) || b)
   took_step b acts =
       ap (any_or b (takes_such test n name)) (tells_act (told log) log e (act.Handshake name n) acts)
-      ∙ (by (ends_handshake e.reply (taken log e)) (broke_off e.reply (taken log e) e.puts)
+      ∙ (by (came_over log name) (ends_handshake e.reply (taken log e)) (broke_off e.reply (taken log e) e.puts)
       ∙ (ap (λ c. ((c && (name == name)) && test (taken log e)) || b) (eq-eqb n n refl) ∙ ap (λ c. (c && test (taken log e)) || b) (eq-eqb name name refl)))
     where
-      by : (over broke : Bool)
-          → any_or b (takes_such test n name) (handshake_tells n name (peer_at log name).link over (taken log e) ++ when broke (telling.end_dropped (peer_at log name).link side.In ∷ []))
-          ≡ ((((n == n) && (name == name)) && test (taken log e)) || b)
-      by true true = refl
-      by true false = refl
-      by false true = refl
-      by false false = refl
+      by : (o : Option ℕ) (over broke : Bool)
+          → any_or b (takes_such test n name) (handshake_tells n name o over (taken log e) ++ when broke (listening_dropped o)) ≡ ((((n == n) && (name == name)) && test (taken log e)) || b)
+      by None true true = refl
+      by (Some link) true true = refl
+      by o true false = refl
+      by None false true = refl
+      by (Some link) false true = refl
+      by o false false = refl
 
   -- no step of it
   took_other : (b : Bool) → IsOther n name e.event.act → any_or b (takes_such test n name) (tells (told log) log e) ≡ b

@@ -6,21 +6,23 @@ use Rattle.std.proofs.lemmas.Bool.Decides.{nat_tests}
 use Rattle.std.proofs.lemmas.List.Filters.{length-filter_both}
 use Rattle.std.proofs.lemmas.List.Sums.{sum_by-append, sum_by-cons, length-filter}
 use Rattle.std.proofs.lemmas.Map.Views.{any-filter_same}
+use Rattle.p2p_base.specs.declared.key.Key.{Key}
+use Rattle.p2p_address.specs.declared.ip.SocketAddr.{SocketAddr}
 use Rattle.p2p_tracker_calls.specs.declared.gates.Reply.TheVariants as gates
-use Rattle.p2p_log.specs.declared.queue.Side.TheVariants as side
 use Rattle.p2p_log.specs.declared.item.Item.{Item}
+use Rattle.p2p_log.specs.declared.item.Item.TheVariants as item
 use Rattle.p2p_log.specs.declared.entry.Entry.{Entry}
 use Rattle.p2p_log.specs.declared.entry.Reply.{Reply}
 use Rattle.p2p_log.specs.declared.entry.Reply.TheVariants as reply
 use Rattle.p2p_log.specs.declared.event.Act.{Act}
 use Rattle.p2p_log.specs.declared.event.Act.TheVariants as act
 use Rattle.p2p_log_rules.specs.Facts.{taken, state_from}
-use Rattle.p2p_log_rules.specs.Handshakes.{ends_handshake, peer_at, begins_handshake, ends_named, handshakes_of, is_handshaking}
+use Rattle.p2p_log_rules.specs.Handshakes.{ends_handshake, came_over, begins_handshake, ends_named, handshakes_of, is_handshaking}
 use Rattle.p2p_log_rules.specs.Puts.{broke_off}
 use Rattle.p2p_log_rules.specs.Standing.{standing}
 use Rattle.p2p_log_rules.specs.Tellings.{Telling}
 use Rattle.p2p_log_rules.specs.Tellings as telling
-use Rattle.p2p_log_rules.specs.Told.{when, admitted_as, begun_tells, arrival_tells, handshake_tells, gates_tell, heard_tells, stop_tells, tells, told}
+use Rattle.p2p_log_rules.specs.Told.{when, admitted_as, begun_tells, listening_dropped, arrival_tells, handshake_tells, gates_tell, heard_tells, stop_tells, tells, told}
 use Rattle.p2p_log.proofs.Each.{Each-from_has}
 use Rattle.p2p_log_rules.proofs.Channels.{IsStopOf, tells_stop, by_stop}
 use Rattle.p2p_log_rules.proofs.TellingKinds.{Kind}
@@ -31,11 +33,16 @@ use Rattle.p2p_log_rules.proofs.LinkTells.{tells_act, quiet_told}
 use Rattle.p2p_log_rules.proofs.Standing.{started, stood_after, stood_told, standing-more, stood_append, same_filter, same_stood, others_stood, all_stopped}
 use Rattle.p2p_log_rules.proofs.Stopped.{stop_handshake}
 use Rattle.p2p_log_rules.proofs.Tellings.{told-append, when_quiet}
-use Rattle.p2p_log_rules.proofs.Told.{NoneStopped, arrival_quiet, gates_quiet, heard_quiet, stop_quiet}
+use Rattle.p2p_log_rules.proofs.Told.{NoneStopped, arrival_quiet, gates_quiet, turned_quiet, heard_quiet, stop_quiet}
 
 -- these without the one of a name
 abbrev pub without_name : ℕ → List ℕ → List ℕ
 without_name name names = filter (λ k. not (k == name)) names
+
+-- the handshake of this name that begins with what was taken, where that is an arrival
+abbrev pub begun_with : Option ℕ → List Item → Option ℕ
+begun_with (Some h) (item.Arrival from key link ∷ items) = Some h
+begun_with _ _ = None
 
 -- ---- one entry more
 
@@ -45,12 +52,12 @@ handshake_kinds = kind.handshake_begun ∷ kind.handshake_ended ∷ []
 
 -- a telling of the beginning or the end of a handshake of a node
 abbrev pub of_handshakes : ℕ → Telling → Bool
-of_handshakes n (telling.handshake_begun m h) = m == n
+of_handshakes n (telling.handshake_begun m h from key link at) = m == n
 of_handshakes n (telling.handshake_ended m h link) = m == n
 of_handshakes n _ = false
 
 handshake_reads : (n : ℕ) (t : Telling) → has handshake_kinds (telling_kind t) ≡ false → of_handshakes n t ≡ false
-handshake_reads n (telling.handshake_begun m h) is = cc
+handshake_reads n (telling.handshake_begun m h from key link at) is = cc
 handshake_reads n (telling.handshake_ended m h link) is = cc
 handshake_reads n _ is = refl
 
@@ -59,7 +66,7 @@ module _ (n : ℕ) where
   after_all ts names = stood_told (begins_handshake n) (ends_named n) ts names
 
   other_after : (t : Telling) (names : List ℕ) → of_handshakes n t ≡ false → stood_after (begins_handshake n) (ends_named n) t names ≡ names
-  other_after (telling.handshake_begun m h) names is = ap (λ b. filter (λ k. true) names ++ started (cond b (Some h) None)) is ∙ same_stood names
+  other_after (telling.handshake_begun m h from key link at) names is = ap (λ b. filter (λ k. true) names ++ started (cond b (Some h) None)) is ∙ same_stood names
   other_after (telling.handshake_ended m h link) names is = ap (λ b. filter (λ k. not (b && (k == h))) names ++ []) is ∙ same_stood names
   other_after _ names is = same_stood names
 
@@ -74,22 +81,28 @@ module _ (n : ℕ) where
   after_others : (ts us : List Telling) (names : List ℕ) → list_any (of_handshakes n) ts ≡ false → after_all (ts ++ us) names ≡ after_all us names
   after_others ts us names h = stood_append (begins_handshake n) (ends_named n) ts us names ∙ ap (after_all us) (others_after ts names h)
 
-  begun_after : (o : Option ℕ) (names : List ℕ) → after_all (begun_tells n o) names ≡ names ++ started o
-  begun_after None names = sym (append-nil names)
-  begun_after (Some h) names = ap (λ b. filter (λ k. true) names ++ started (cond b (Some h) None)) (eq-eqb n n refl) ∙ ap (λ l. l ++ h ∷ []) (same_filter names)
+  begun_after : (at : ℕ) (o : Option ℕ) (items : List Item) (names : List ℕ) → after_all (begun_tells n at o items) names ≡ names ++ started (begun_with o items)
+  begun_after at (Some h) (item.Arrival from key link ∷ items) names =
+      ap (λ b. filter (λ k. true) names ++ started (cond b (Some h) None)) (eq-eqb n n refl) ∙ ap (λ l. l ++ h ∷ []) (same_filter names)
+  begun_after at (Some h) _ names = sym (append-nil names)
+  begun_after at None items names = sym (append-nil names)
 
   listened_after : (name at : ℕ) (r : Reply) (items : List Item) (names : List ℕ)
-      → after_all ((arrival_tells n (admitted_as name r) items ++ (begun_tells n (admitted_as name r) ++ gates_tell r items)) ++ heard_tells n at r items) names ≡ names ++ started (admitted_as name r)
+      → after_all ((arrival_tells n (admitted_as name r) items ++ (begun_tells n at (admitted_as name r) items ++ gates_tell r items)) ++ heard_tells n at r items) names
+      ≡ names ++ started (begun_with (admitted_as name r) items)
   listened_after name at r items names =
-      before_others (arrival_tells n (admitted_as name r) items ++ (begun_tells n (admitted_as name r) ++ gates_tell r items)) (heard_tells n at r items) names
+      before_others (arrival_tells n (admitted_as name r) items ++ (begun_tells n at (admitted_as name r) items ++ gates_tell r items)) (heard_tells n at r items) names
       (heard_quiet (of_handshakes n) name at n r items (record { update = λ addresses. refl; arrival = λ from g. refl }))
-      ∙ (after_others (arrival_tells n (admitted_as name r) items) (begun_tells n (admitted_as name r) ++ gates_tell r items) names (arrival_quiet (of_handshakes n) name 0 n (admitted_as name r) items (λ link o. refl))
-      ∙ (before_others (begun_tells n (admitted_as name r)) (gates_tell r items) names (gates_quiet (of_handshakes n) name 0 r items (λ link. refl)) ∙ begun_after (admitted_as name r) names))
+      ∙ (after_others (arrival_tells n (admitted_as name r) items) (begun_tells n at (admitted_as name r) items ++ gates_tell r items) names
+      (arrival_quiet (of_handshakes n) name 0 n (admitted_as name r) items (λ link o. refl))
+      ∙ (before_others (begun_tells n at (admitted_as name r) items) (gates_tell r items) names (gates_quiet (of_handshakes n) name 0 r items (λ link. refl)) ∙ begun_after at (admitted_as name r) items names))
 
-  shaken_after : (h link : ℕ) (over broke : Bool) (items : List Item) (names : List ℕ)
-      → after_all (handshake_tells n h link over items ++ when broke (telling.end_dropped link side.In ∷ [])) names ≡ cond over (without_name h names) names
+  shaken_after : (h : ℕ) (link : Option ℕ) (over broke : Bool) (items : List Item) (names : List ℕ)
+      → after_all (handshake_tells n h link over items ++ when broke (listening_dropped link)) names ≡ cond over (without_name h names) names
   shaken_after h link over broke items names =
-      before_others (handshake_tells n h link over items) (when broke (telling.end_dropped link side.In ∷ [])) names (when_quiet (of_handshakes n) broke (telling.end_dropped link side.In ∷ []) refl) ∙ by over
+      before_others (handshake_tells n h link over items) (when broke (listening_dropped link)) names
+      (when_quiet (of_handshakes n) broke (listening_dropped link) (turned_quiet (of_handshakes n) 0 0 link (λ l. refl)))
+      ∙ by over
     where
       by : (over : Bool) → after_all (handshake_tells n h link over items) names ≡ cond over (without_name h names) names
       by true =
@@ -116,14 +129,14 @@ module _ (log : List Entry) (e : Entry) (n : ℕ) where
   -- or is of the listener, or a handshake, of another node
   pub handshakes_of-elsewhere : (m : ℕ) → (m == n) ≡ false → e.event.act ≡ act.Listener m → handshakes_of (log ++ e ∷ []) n ≡ handshakes_of log n
   handshakes_of-elsewhere m other acts =
-      handshakes_of-kept (quiet_told (told log) log e (of_handshakes n) (act.Listener m) acts (record { took = λ link o. refl; begun = other; drops = λ link. refl }, record { update = λ addresses. refl; arrival = λ from g. refl }))
+      handshakes_of-kept (quiet_told (told log) log e (of_handshakes n) (act.Listener m) acts (record { took = λ link o. refl; begun = λ from key link. other; drops = λ link. refl }, record { update = λ addresses. refl; arrival = λ from g. refl }))
 
   pub handshakes_of-another : (h m : ℕ) → (m == n) ≡ false → e.event.act ≡ act.Handshake h m → handshakes_of (log ++ e ∷ []) n ≡ handshakes_of log n
   handshakes_of-another h m other acts =
       handshakes_of-kept (quiet_told (told log) log e (of_handshakes n) (act.Handshake h m) acts (record { took = λ items. refl; over = λ link. other; drops = λ link. refl }))
 
   -- a step of the listener begins the one that it admits
-  pub handshakes_of-listened : e.event.act ≡ act.Listener n → handshakes_of (log ++ e ∷ []) n ≡ handshakes_of log n ++ started (admitted_as (length log) e.reply)
+  pub handshakes_of-listened : e.event.act ≡ act.Listener n → handshakes_of (log ++ e ∷ []) n ≡ handshakes_of log n ++ started (begun_with (admitted_as (length log) e.reply) (taken log e))
   handshakes_of-listened acts = handshakes_of-append ∙ (ap (λ us. after_all n us hs) (tells_act (told log) log e (act.Listener n) acts) ∙ listened_after n (length log) e.event.at e.reply (taken log e) hs)
 
   -- a step of a handshake may end it
@@ -131,12 +144,17 @@ module _ (log : List Entry) (e : Entry) (n : ℕ) where
   handshakes_of-shaken h acts =
       handshakes_of-append
       ∙ (ap (λ us. after_all n us hs) (tells_act (told log) log e (act.Handshake h n) acts)
-      ∙ shaken_after n h (peer_at log h).link (ends_handshake e.reply (taken log e)) (broke_off e.reply (taken log e) e.puts) (taken log e) hs)
+      ∙ shaken_after n h (came_over log h) (ends_handshake e.reply (taken log e)) (broke_off e.reply (taken log e) e.puts) (taken log e) hs)
 
   -- so the entry begins one of its name
   pub record Begins : Type 0 where
     pub acts : e.event.act ≡ act.Listener n
     pub replied : e.reply ≡ reply.Gates gates.Admitted
+    pub from : SocketAddr
+    pub key : Key
+    pub link : ℕ
+    pub rest : List Item
+    pub took : taken log e ≡ item.Arrival from key link ∷ rest
     pub now : handshakes_of (log ++ e ∷ []) n ≡ handshakes_of log n ++ length log ∷ []
 
   -- or ends one
@@ -172,17 +190,20 @@ module _ (log : List Entry) (e : Entry) (n : ℕ) where
       Now : Type 0
       Now = (handshakes_of (log ++ e ∷ []) n ≡ handshakes_of log n) ⊎ (Begins ⊎ (Ends ⊎ Stops))
 
-      begins : e.event.act ≡ act.Listener n → (r : Reply) → e.reply ≡ r → handshakes_of (log ++ e ∷ []) n ≡ handshakes_of log n ++ started (admitted_as (length log) r) → Now
-      begins acts (reply.Gates gates.Admitted) is now = inr (inl (record { acts = acts; replied = is; now = now }))
-      begins acts (reply.Gates _) is now = inl (now ∙ append-nil hs)
-      begins acts _ is now = inl (now ∙ append-nil hs)
+      begins : e.event.act ≡ act.Listener n → (r : Reply) → e.reply ≡ r → (items : List Item) → taken log e ≡ items
+          → handshakes_of (log ++ e ∷ []) n ≡ handshakes_of log n ++ started (begun_with (admitted_as (length log) r) items) → Now
+      begins acts (reply.Gates gates.Admitted) is (item.Arrival from key link ∷ rest) took now =
+          inr (inl (record { acts = acts; replied = is; from = from; key = key; link = link; rest = rest; took = took; now = now }))
+      begins acts (reply.Gates gates.Admitted) is _ took now = inl (now ∙ append-nil hs)
+      begins acts (reply.Gates _) is items took now = inl (now ∙ append-nil hs)
+      begins acts _ is items took now = inl (now ∙ append-nil hs)
 
       shakes : (h : ℕ) → e.event.act ≡ act.Handshake h n → (b : Bool) → ends_handshake e.reply (taken log e) ≡ b → handshakes_of (log ++ e ∷ []) n ≡ cond b (without_name h hs) hs → Now
       shakes h acts true over now = inr (inr (inl (record { name = h; acts = acts; over = over; now = now })))
       shakes h acts false over now = inl now
 
       listener : (m : ℕ) → e.event.act ≡ act.Listener m → (b : Bool) → (m == n) ≡ b → Now
-      listener m acts true at = let here : e.event.act ≡ act.Listener n = acts ∙ ap act.Listener (eqb-true m n at) in begins here e.reply refl (handshakes_of-listened here)
+      listener m acts true at = let here : e.event.act ≡ act.Listener n = acts ∙ ap act.Listener (eqb-true m n at) in begins here e.reply refl (taken log e) refl (handshakes_of-listened here)
       listener m acts false other = inl (handshakes_of-elsewhere m other acts)
 
       shaken : (h m : ℕ) → e.event.act ≡ act.Handshake h m → (b : Bool) → (m == n) ≡ b → Now

@@ -3,7 +3,7 @@ use Rattle.std.proofs.Common.{◌≡◌, Bool, true, false, cond, List, [], ◌�
 use Rattle.std.specs.Prelude.{◌||◌, ◌&&◌, flat_map, is_some, unwrap_or}
 use Rattle.std.specs.List.{list_any}
 use Rattle.p2p_log.specs.declared.entry.Entry.{Entry}
-use Rattle.p2p_log_rules.specs.Tellings.{Telling, last_or, any_or}
+use Rattle.p2p_log_rules.specs.Tellings.{Telling, last_or, or_new, first_or, any_or}
 use Rattle.p2p_log_rules.proofs.Tellings.{or_left, or_right}
 
 -- whether something is read of a telling
@@ -17,6 +17,23 @@ last_or-none {X = X} x pick (t ∷ ts) h = by (pick t) (or_left (reads_some pick
     by : (o : Option X) → is_some o ≡ false → last_or (unwrap_or o x) pick ts ≡ last_or x pick ts
     by None none = refl
     by (Some y) none = cc
+
+pub first_or-none : {X : Type 0} (o : Option X) (pick : Telling → Option X) (ts : List Telling) → list_any (reads_some pick) ts ≡ false → first_or o pick ts ≡ o
+first_or-none o pick [] h = refl
+first_or-none {X = X} o pick (t ∷ ts) h = by (pick t) (or_left (reads_some pick t) (list_any (reads_some pick) ts) h) ∙ first_or-none o pick ts (or_right (reads_some pick t) (list_any (reads_some pick) ts) h)
+  where
+    by : (p : Option X) → is_some p ≡ false → first_or (or_new p o) pick ts ≡ first_or o pick ts
+    by None none = refl
+    by (Some y) none = cc
+
+-- what is told first stays
+pub first_or-some : {X : Type 0} (x : X) (pick : Telling → Option X) (ts : List Telling) → first_or (Some x) pick ts ≡ Some x
+first_or-some x pick [] = refl
+first_or-some {X = X} x pick (t ∷ ts) = by (pick t) ∙ first_or-some x pick ts
+  where
+    by : (p : Option X) → first_or (or_new p (Some x)) pick ts ≡ first_or (Some x) pick ts
+    by None = refl
+    by (Some y) = refl
 
 pub any_or-none : (b : Bool) (test : Telling → Bool) (ts : List Telling) → list_any test ts ≡ false → any_or b test ts ≡ b
 any_or-none b test [] h = refl

@@ -17,6 +17,7 @@ pub mod Emptied
 pub mod Facts
 pub mod Families
 pub mod First
+pub mod HandshakeBegun
 pub mod HandshakeEnds
 pub mod HandshakeTook
 pub mod Handshakes
@@ -43,7 +44,6 @@ pub mod Standing
 pub mod Stopped
 pub mod Stopping
 pub mod Steps
-pub mod TakenAt
 pub mod Taking
 pub mod Tellings
 pub mod Told

@@ -9,7 +9,6 @@ use Rattle.p2p_address.specs.declared.ip.SocketAddr.{SocketAddr}
 use Rattle.p2p_tracker_calls.specs.declared.gates.Reply.TheVariants as gates
 use Rattle.p2p_log.specs.declared.queue.Queue.{Queue}
 use Rattle.p2p_log.specs.declared.queue.Queue.TheVariants as queue
-use Rattle.p2p_log.specs.declared.queue.Side.TheVariants as side
 use Rattle.p2p_log.specs.declared.item.Item.{Item}
 use Rattle.p2p_log.specs.declared.item.Item.TheVariants as item
 use Rattle.p2p_log.specs.declared.entry.Entry.{Entry}
@@ -22,12 +21,12 @@ use Rattle.p2p_log_rules.specs.declared.row.Opening.{Opening}
 use Rattle.p2p_log_rules.specs.declared.row.ListeningEnd.{ListeningEnd}
 use Rattle.p2p_log_rules.specs.declared.row.ListeningEnd.TheVariants as listening
 use Rattle.p2p_log_rules.specs.Facts.{taken, state_from, with_named}
-use Rattle.p2p_log_rules.specs.Handshakes.{ends_handshake, peer_at}
+use Rattle.p2p_log_rules.specs.Handshakes.{ends_handshake, came_over}
 use Rattle.p2p_log_rules.specs.Links.{opens_exchange, openings_of, has_listening, listening_ends_of}
 use Rattle.p2p_log_rules.specs.Puts.{broke_off}
 use Rattle.p2p_log_rules.specs.Tellings.{Telling, last_or}
 use Rattle.p2p_log_rules.specs.Tellings as telling
-use Rattle.p2p_log_rules.specs.Told.{messages_stop, arrivals_stop, attempts_in, attempt_stops, handshakes_in, handshake_stops, connections_in, connection_stops, when, done_tells, link_tells, admitted_as, begun_tells, arrival_tells, handshake_tells, gates_tell, heard_tells, tells, told}
+use Rattle.p2p_log_rules.specs.Told.{messages_stop, arrivals_stop, attempts_in, attempt_stops, handshakes_in, handshake_stops, connections_in, connection_stops, when, done_tells, link_tells, admitted_as, begun_tells, listening_dropped, arrival_tells, handshake_tells, gates_tell, heard_tells, tells, told, is_link}
 use Rattle.p2p_log_rules.proofs.Channels.{IsStopOf, tells_stop, by_stop}
 use Rattle.p2p_log_rules.proofs.TellingKinds.{Kind}
 use Rattle.p2p_log_rules.proofs.TellingKinds as kind
@@ -172,6 +171,11 @@ openings_of-closed log e k other closed = by (openings_of (log ++ e ∷ []) k) r
 
 -- ---- what has their listening ends
 
+-- these without that of a link, where there is one
+abbrev pub without_end : Option ℕ → (ℕ → Option ListeningEnd) → ℕ → Option ListeningEnd
+without_end None ends k = ends k
+without_end (Some link) ends k = with_named link None ends k
+
 -- the kinds of tellings that change it
 abbrev pub listening_kinds : List Kind
 listening_kinds = kind.node_stopped ∷ kind.link_opened ∷ kind.arrival_taken ∷ kind.handshake_ended ∷ []
@@ -245,7 +249,7 @@ module _ (log : List Entry) (e : Entry) (n : ℕ) where
   listening_ends_of-listened m items acts took k =
       let about : Telling → Bool = reads_some (has_listening n k) in
       let first : List Telling = arrival_tells m (admitted_as (length log) e.reply) (taken log e) in
-      let begun : List Telling = begun_tells m (admitted_as (length log) e.reply) in
+      let begun : List Telling = begun_tells m e.event.at (admitted_as (length log) e.reply) (taken log e) in
       let gate : List Telling = gates_tell e.reply (taken log e) in
       let heard : List Telling = heard_tells m e.event.at e.reply (taken log e) in
       listening_ends_of-append k
@@ -255,7 +259,7 @@ module _ (log : List Entry) (e : Entry) (n : ℕ) where
       (heard_quiet about (length log) e.event.at m e.reply (taken log e) (record { update = λ addresses. refl; arrival = λ from g. refl }))
       ∙ (last_or-append (ends k) (has_listening n k) first (begun ++ gate)
       ∙ (last_or-none (last_or (ends k) (has_listening n k) first) (has_listening n k) (begun ++ gate)
-      (append_quiet about begun gate (begun_quiet about (length log) 0 m e.reply refl) (gates_quiet about (length log) 0 e.reply (taken log e) (λ link. refl)))
+      (append_quiet about begun gate (begun_quiet about (length log) e.event.at m e.reply (taken log e) (λ from key link. refl)) (gates_quiet about (length log) 0 e.reply (taken log e) (λ link. refl)))
       ∙ ap (λ i. last_or (ends k) (has_listening n k) (arrival_tells m (admitted_as (length log) e.reply) i)) took)))))
 
   -- as one that took an arrival
@@ -268,22 +272,28 @@ module _ (log : List Entry) (e : Entry) (n : ℕ) where
 
   -- a step of a handshake
   pub listening_ends_of-shaken : (h m : ℕ) → e.event.act ≡ act.Handshake h m
-      → (k : ℕ) → listening_ends_of (log ++ e ∷ []) n k ≡ cond (m == n) (cond (ends_handshake e.reply (taken log e)) (with_named (peer_at log h).link None (listening_ends_of log n) k) (listening_ends_of log n k)) (listening_ends_of log n k)
+      → (k : ℕ) → listening_ends_of (log ++ e ∷ []) n k ≡ cond (m == n) (cond (ends_handshake e.reply (taken log e)) (without_end (came_over log h) (listening_ends_of log n) k) (listening_ends_of log n k)) (listening_ends_of log n k)
   listening_ends_of-shaken h m acts k =
       listening_ends_of-append k
-      ∙ (ap (last_or (ends k) (has_listening n k)) (tells_act (told log) log e (act.Handshake h m) acts) ∙ by (ends_handshake e.reply (taken log e)) (broke_off e.reply (taken log e) e.puts) (taken log e))
+      ∙ (ap (last_or (ends k) (has_listening n k)) (tells_act (told log) log e (act.Handshake h m) acts) ∙ by (came_over log h) (ends_handshake e.reply (taken log e)) (broke_off e.reply (taken log e) e.puts) (taken log e))
     where
       same : (b : Bool) (o : Option ListeningEnd) → o ≡ cond b o o
       same true o = refl
       same false o = refl
 
-      by : (over broke : Bool) (items : List Item)
-          → last_or (ends k) (has_listening n k) (handshake_tells m h (peer_at log h).link over items ++ when broke (telling.end_dropped (peer_at log h).link side.In ∷ []))
-          ≡ cond (m == n) (cond over (with_named (peer_at log h).link None ends k) (ends k)) (ends k)
-      by true true items = unwrap_at (m == n) (k == (peer_at log h).link) None (ends k)
-      by true false items = unwrap_at (m == n) (k == (peer_at log h).link) None (ends k)
-      by false true items = same (m == n) (ends k)
-      by false false items = same (m == n) (ends k)
+      none_over : (o : Option ListeningEnd) (b : Bool) → unwrap_or (cond (b && false) (Some None) None) o ≡ cond b o o
+      none_over o true = refl
+      none_over o false = refl
+
+      by : (o : Option ℕ) (over broke : Bool) (items : List Item)
+          → last_or (ends k) (has_listening n k) (handshake_tells m h o over items ++ when broke (listening_dropped o)) ≡ cond (m == n) (cond over (without_end o ends k) (ends k)) (ends k)
+      by (Some link) true true items = unwrap_at (m == n) (k == link) None (ends k)
+      by (Some link) true false items = unwrap_at (m == n) (k == link) None (ends k)
+      by None true true items = none_over (ends k) (m == n)
+      by None true false items = none_over (ends k) (m == n)
+      by (Some link) false true items = same (m == n) (ends k)
+      by None false true items = same (m == n) (ends k)
+      by o false false items = same (m == n) (ends k)
 
   -- the stop of another node leaves them alone: its tellings are of that node
   listening_ends_of-elsewhere : (by_start : Bool) (m : ℕ) → e.event.act ≡ act.Stop by_start m → (m == n) ≡ false → (k : ℕ) → listening_ends_of (log ++ e ∷ []) n k ≡ listening_ends_of log n k
@@ -292,7 +302,7 @@ module _ (log : List Entry) (e : Entry) (n : ℕ) where
       (quiet_told (told log) log e (reads_some (has_listening n k)) (act.Stop by_start m) acts (record {
         stops = ap (λ b. is_some {T = Option ListeningEnd} (cond b (Some None) None)) other;
         attempt = λ j. refl;
-        handshake = λ h link. ap (λ b. is_some {T = Option ListeningEnd} (cond (b && (k == link)) (Some None) None)) other;
+        handshake = λ h link. ap (λ b. is_some {T = Option ListeningEnd} (cond (b && is_link k link) (Some None) None)) other;
         connection = λ conn. refl;
         drops = λ link s. refl;
       }))
@@ -308,7 +318,7 @@ module _ (log : List Entry) (e : Entry) (n : ℕ) where
       rest =
           messages_stop (told log) n (line log (queue.Spawner n))
           ++ (arrivals_stop (line log (queue.Arrivals n))
-          ++ (flat_map (attempt_stops (told log) n) (attempts_in (told log) n) ++ (flat_map (handshake_stops log n) (handshakes_in (told log) n) ++ flat_map (connection_stops (told log) n) (connections_in (told log) n))))
+          ++ (flat_map (attempt_stops (told log) n) (attempts_in (told log) n) ++ (flat_map (handshake_stops (told log) n) (handshakes_in (told log) n) ++ flat_map (connection_stops (told log) n) (connections_in (told log) n))))
 
       gives : Telling → Bool
       gives t = gives_some (has_listening n k t)
@@ -317,7 +327,7 @@ module _ (log : List Entry) (e : Entry) (n : ℕ) where
       none_begins = or_right (gives (telling.node_stopped n)) (list_any gives rest) (stop_quiet gives 0 0 (told log) log n (record {
         stops = given_none (n == n);
         attempt = λ j. refl;
-        handshake = λ h link. given_none ((n == n) && (k == link));
+        handshake = λ h link. given_none ((n == n) && is_link k link);
         connection = λ conn. refl;
         drops = λ link s. refl;
       }))
@@ -380,19 +390,20 @@ module _ (log : List Entry) (e : Entry) (n : ℕ) where
           here false at c over so = inl so
       listens m acts _ took so = inl so
 
-      shakes : (b over : Bool) (l : ℕ) → cond b (cond over (with_named l None ends link) (ends link)) (ends link) ≡ Some (listening.Handshake h) → ends link ≡ Some (listening.Handshake h)
-      shakes true true l so = drops (link == l) so
+      shakes : (b over : Bool) (o : Option ℕ) → cond b (cond over (without_end o ends link) (ends link)) (ends link) ≡ Some (listening.Handshake h) → ends link ≡ Some (listening.Handshake h)
+      shakes true true None so = so
+      shakes true true (Some l) so = drops (link == l) so
         where
           drops : (b : Bool) → cond b None (ends link) ≡ Some (listening.Handshake h) → ends link ≡ Some (listening.Handshake h)
           drops true so = cc
           drops false so = so
-      shakes true false l so = so
-      shakes false over l so = so
+      shakes true false o so = so
+      shakes false over o so = so
 
       by : (a : Act) → e.event.act ≡ a → Had
       by (act.Connect d from m to) acts = inl (links d m to e.reply e.puts (now (act.Connect d from m to) acts))
       by (act.Listener m) acts = listens m acts (taken log e) refl (sym (listening_ends_of-listened m (taken log e) acts refl link) ∙ is)
-      by (act.Handshake k m) acts = inl (shakes (m == n) (ends_handshake e.reply (taken log e)) (peer_at log k).link (sym (listening_ends_of-shaken k m acts link) ∙ is))
+      by (act.Handshake k m) acts = inl (shakes (m == n) (ends_handshake e.reply (taken log e)) (came_over log k) (sym (listening_ends_of-shaken k m acts link) ∙ is))
       by (act.Stop by_start m) acts =
           by_stop log e n by_start m acts
           (λ other. inl (sym (listening_ends_of-elsewhere by_start m acts other link) ∙ is))

@@ -12,8 +12,8 @@ use Rattle.p2p_runtime.specs.QuotaLaw.{admits}
 use Rattle.p2p_tracker_calls.specs.Gates.{GateRules, Known, limited_reply, is_private, is_unregistered, turned_away, first_told, unless_refused, reply_to, known_after}
 use Rattle.p2p_tracker_calls.specs.Heard.{ip_cmp}
 use Rattle.p2p_tracker_calls.specs.Quotas.{Rates, Passed, verdict, passed_after}
-use Rattle.p2p_tracker_calls.specs.declared.gates.Reply.{Reply as Gates}
 use Rattle.p2p_tracker_calls.specs.declared.gates.Reply.TheVariants as gates
+use Rattle.p2p_tracker_calls.specs.declared.gates.Reply.{Reply as Gates}
 use Rattle.p2p_log.specs.declared.config.Config.{Config}
 use Rattle.p2p_log.specs.declared.item.Item.{Item}
 use Rattle.p2p_log.specs.declared.item.Item.TheVariants as item
@@ -274,11 +274,11 @@ module _ (n at : ℕ) (k : Known) where
   heard rules r _ h = known_same n [] k refl
 
 -- what a step of the listener tells before that is of other things
-abbrev others_told : ℕ → ℕ → Reply → List Item → List Telling
-others_told m name r items = arrival_tells m (admitted_as name r) items ++ (begun_tells m (admitted_as name r) ++ gates_tell r items)
+abbrev others_told : ℕ → ℕ → ℕ → Reply → List Item → List Telling
+others_told m name at r items = arrival_tells m (admitted_as name r) items ++ (begun_tells m at (admitted_as name r) items ++ gates_tell r items)
 
-others_quiet : (n m name : ℕ) (r : Reply) (items : List Item) → list_any (is_hearing n) (others_told m name r items) ≡ false
-others_quiet n m name r items = listener_quiet (is_hearing n) name 0 m r items (record { took = λ link handshake. refl; begun = refl; drops = λ link. refl })
+others_quiet : (n m name at : ℕ) (r : Reply) (items : List Item) → list_any (is_hearing n) (others_told m name at r items) ≡ false
+others_quiet n m name at r items = listener_quiet (is_hearing n) name at m r items (record { took = λ link handshake. refl; begun = λ from key link. refl; drops = λ link. refl })
 
 module _ (configs : List Config) (log : List Entry) (e : Entry) (n : ℕ) where
   -- an entry that tells nothing of it leaves it alone
@@ -296,13 +296,13 @@ module _ (configs : List Config) (log : List Entry) (e : Entry) (n : ℕ) where
   unfolding known_of
   known_of-listened acts h =
       let ts : List Telling = told log in
-      let first : List Telling = others_told n (length log) e.reply (taken log e) in
+      let first : List Telling = others_told n (length log) e.event.at e.reply (taken log e) in
       let after : List Telling = heard_tells n e.event.at e.reply (taken log e) in
       ap (λ l. known_in l n) (told-append log e)
       ∙ (ap (λ us. known_in (ts ++ us) n) (tells_act ts log e (act.Listener n) acts)
       ∙ (ap (λ l. known_in l n) (sym (append_assoc ts first after))
       ∙ (known_in-more n (ts ++ first) after
-      ∙ (ap (known_told n after) (known_others n ts first (others_quiet n n (length log) e.reply (taken log e))) ∙ heard n e.event.at (known_in ts n) (gate_rules_at configs n) e.reply (taken log e) h))))
+      ∙ (ap (known_told n after) (known_others n ts first (others_quiet n n (length log) e.event.at e.reply (taken log e))) ∙ heard n e.event.at (known_in ts n) (gate_rules_at configs n) e.reply (taken log e) h))))
 
   -- nor does one that took nothing
   pub known_of-untaken : taken log e ≡ [] → known_of configs (log ++ e ∷ []) n ≡ known_of configs log n
@@ -312,7 +312,7 @@ module _ (configs : List Config) (log : List Entry) (e : Entry) (n : ℕ) where
       by (act.Listener m) acts =
           known_of-kept
           (ap (list_any (is_hearing n)) (tells_act (told log) log e (act.Listener m) acts)
-          ∙ append_quiet (is_hearing n) (others_told m (length log) e.reply (taken log e)) (heard_tells m e.event.at e.reply (taken log e)) (others_quiet n m (length log) e.reply (taken log e))
+          ∙ append_quiet (is_hearing n) (others_told m (length log) e.event.at e.reply (taken log e)) (heard_tells m e.event.at e.reply (taken log e)) (others_quiet n m (length log) e.event.at e.reply (taken log e))
           (ap (λ i. list_any (is_hearing n) (heard_tells m e.event.at e.reply i)) none))
       by a acts = known_of-apart (ap (λ b. are_apart (kinds_of b) hearing_kinds) acts)
 
@@ -346,12 +346,12 @@ module _ (n : ℕ) where
 
       by : (a : Act) → e.event.act ≡ a → last_or x (comes_to_quotas n) (tells ts log e) ≤ max x e.event.at
       by (act.Listener m) is =
-          let first : List Telling = others_told m (length log) e.reply (taken log e) in
+          let first : List Telling = others_told m (length log) e.event.at e.reply (taken log e) in
           let after : List Telling = heard_tells m e.event.at e.reply (taken log e) in
           subst (λ y. y ≤ max x e.event.at)
           (sym (ap (λ a. last_or x (comes_to_quotas n) (act_tells ts log (length log) e.event.at e.event.seed e.reply (taken log e) e.puts a)) is
           ∙ (last_or-append x (comes_to_quotas n) first after
-          ∙ ap (λ y. last_or y (comes_to_quotas n) after) (last_kept (is_hearing n) (comes_to_quotas n) (none_comes n) x first (others_quiet n m (length log) e.reply (taken log e))))))
+          ∙ ap (λ y. last_or y (comes_to_quotas n) after) (last_kept (is_hearing n) (comes_to_quotas n) (none_comes n) x first (others_quiet n m (length log) e.event.at e.reply (taken log e))))))
           (hear m e.reply (taken log e))
       by a is = kept (tells ts log e) (untold_of (is_hearing n) hearing_kinds (of_kinds n) ts log e (ap (λ b. are_apart (kinds_of b) hearing_kinds) is))
 

@@ -1,18 +1,16 @@
 -- What a stop of a node tells of the things that it ends.
-use Rattle.std.proofs.Common.{◌≡◌, ℕ, Bool, true, List, [], ◌∷◌, ◌++◌, ap, ◌∙◌, inl, inr}
+use Rattle.std.proofs.Common.{◌≡◌, ℕ, Bool, true, List, [], ◌∷◌, ◌++◌, ap, ◌∙◌, Option, inl, inr}
 use Rattle.std.specs.Prelude.{◌||◌, flat_map}
 use Rattle.std.specs.List.{list_any}
 use Rattle.std.proofs.lemmas.List.Folds.{list_any-append}
 use Rattle.p2p_log.specs.declared.queue.Queue.TheVariants as queue
-use Rattle.p2p_log.specs.declared.queue.Side.TheVariants as side
 use Rattle.p2p_log.specs.declared.entry.Entry.{Entry}
 use Rattle.p2p_log.specs.Lines.{line}
 use Rattle.p2p_log.proofs.Each.{Has}
 use Rattle.p2p_log_rules.specs.Halves.{half_in}
-use Rattle.p2p_log_rules.specs.HandshakeSteps.{peer_at}
 use Rattle.p2p_log_rules.specs.Tellings.{Telling}
 use Rattle.p2p_log_rules.specs.Tellings as telling
-use Rattle.p2p_log_rules.specs.Told.{messages_stop, arrivals_stop, attempts_in, attempt_stops, handshakes_in, handshake_stops, connections_in, connection_stops, stop_tells, link_in, dialing_dropped, half_dropped}
+use Rattle.p2p_log_rules.specs.Told.{messages_stop, arrivals_stop, attempts_in, attempt_stops, handshakes_in, handshake_stops, connections_in, connection_stops, stop_tells, link_in, handshake_in, link_over, dialing_dropped, listening_dropped, half_dropped}
 use Rattle.p2p_log_rules.proofs.Bools.{or_true}
 
 -- what is told of one of these is told of all
@@ -42,7 +40,7 @@ module _ (ts : List Telling) (log : List Entry) (n : ℕ) (test : Telling → Bo
   attempts = flat_map (attempt_stops ts n) (attempts_in ts n)
 
   abbrev handshakes : List Telling
-  handshakes = flat_map (handshake_stops log n) (handshakes_in ts n)
+  handshakes = flat_map (handshake_stops ts n) (handshakes_in ts n)
 
   abbrev connections : List Telling
   connections = flat_map (connection_stops ts n) (connections_in ts n)
@@ -72,10 +70,10 @@ module _ (ts : List Telling) (log : List Entry) (n : ℕ) (test : Telling → Bo
   pub stop_attempt : (k : ℕ) → Has (attempts_in ts n) k → test (telling.attempt_ended n k) ≡ true → list_any test (stop_tells ts log n) ≡ true
   stop_attempt k has h = of_attempts (any_of test (attempt_stops ts n) (attempts_in ts n) k has (ap (λ b. b || list_any test (dialing_dropped (link_in ts n k))) h))
 
-  pub stop_handshake : (k : ℕ) → Has (handshakes_in ts n) k → ((link : ℕ) → test (telling.handshake_ended n k link) ≡ true) → list_any test (stop_tells ts log n) ≡ true
+  pub stop_handshake : (k : ℕ) → Has (handshakes_in ts n) k → ((link : Option ℕ) → test (telling.handshake_ended n k link) ≡ true) → list_any test (stop_tells ts log n) ≡ true
   stop_handshake k has h =
       of_handshakes
-      (any_of test (handshake_stops log n) (handshakes_in ts n) k has (ap (λ b. b || list_any test (telling.end_dropped (peer_at log k).link side.In ∷ [])) (h (peer_at log k).link)))
+      (any_of test (handshake_stops ts n) (handshakes_in ts n) k has (ap (λ b. b || list_any test (listening_dropped (link_over (handshake_in ts k)))) (h (link_over (handshake_in ts k)))))
 
   pub stop_connection : (conn : ℕ) → Has (connections_in ts n) conn → test (telling.connection_ended n conn) ≡ true → list_any test (stop_tells ts log n) ≡ true
   stop_connection conn has h = of_connections (any_of test (connection_stops ts n) (connections_in ts n) conn has (ap (λ b. b || list_any test (half_dropped (half_in ts n conn))) h))

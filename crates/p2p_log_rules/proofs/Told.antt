@@ -6,8 +6,8 @@ use Rattle.p2p_base.specs.declared.key.Key.{Key}
 use Rattle.p2p_address.specs.declared.ip.IpAddr.{IpAddr}
 use Rattle.p2p_address.specs.declared.ip.SocketAddr.{SocketAddr}
 use Rattle.p2p_address.specs.declared.peer.Ingress.{Ingress}
-use Rattle.p2p_tracker_calls.specs.declared.gates.Reply.{Reply as Gates}
 use Rattle.p2p_tracker_calls.specs.declared.gates.Reply.TheVariants as gates
+use Rattle.p2p_tracker_calls.specs.declared.gates.Reply.{Reply as Gates}
 use Rattle.p2p_log.specs.declared.queue.Queue.{Queue}
 use Rattle.p2p_log.specs.declared.queue.Queue.TheVariants as queue
 use Rattle.p2p_log.specs.declared.queue.Side.{Side}
@@ -24,11 +24,11 @@ use Rattle.p2p_log.specs.Lines.{line}
 use Rattle.p2p_log_rules.specs.declared.row.Half.{Half}
 use Rattle.p2p_log_rules.specs.HalfSteps.{is_end, puts_ping, holds}
 use Rattle.p2p_log_rules.specs.Halves.{half_in}
-use Rattle.p2p_log_rules.specs.HandshakeSteps.{ends_handshake, peer_at}
+use Rattle.p2p_log_rules.specs.HandshakeSteps.{ends_handshake}
 use Rattle.p2p_log_rules.specs.Puts.{gave_up, ends_attempt, broke_off, is_answer, turns_away, is_peer_set, arrival_link}
 use Rattle.p2p_log_rules.specs.Tellings.{Telling, last_or}
 use Rattle.p2p_log_rules.specs.Tellings as telling
-use Rattle.p2p_log_rules.specs.Told.{stops_node, half_to_be, messages_stop, arrivals_stop, attempts_in, attempt_stops, handshakes_in, handshake_stops, connections_in, connection_stops, stop_tells, listening_dropped, received_tells, admitted_tells, check_tells, judged_tells, heard_tells, admitted_in, spawn_tells, admitted_as, begun_tells, arrival_tells, handshake_tells, sender_tells, over_tells, when, done_tells, asks_list, link_in, dialing_dropped, half_dropped, gates_tell, answer_tells, ask_tells, took_tells, left_tells, link_tells, act_tells}
+use Rattle.p2p_log_rules.specs.Told.{stops_node, half_to_be, messages_stop, arrivals_stop, attempts_in, attempt_stops, handshakes_in, handshake_stops, connections_in, connection_stops, stop_tells, listening_dropped, received_tells, admitted_tells, check_tells, judged_tells, heard_tells, admitted_in, spawn_tells, admitted_as, begun_tells, arrival_tells, handshake_tells, sender_tells, over_tells, when, done_tells, asks_list, link_in, handshake_in, link_over, dialing_dropped, half_dropped, gates_tell, answer_tells, ask_tells, took_tells, left_tells, link_tells, act_tells}
 use Rattle.p2p_log_rules.proofs.Routed.{NoneRouted, router_quiet}
 use Rattle.std.proofs.lemmas.List.Folds.{list_any-append}
 use Rattle.p2p_log_rules.proofs.Bools.{and_false, or_false}
@@ -63,15 +63,15 @@ pub record NoneSent (test : Telling → Bool) (m conn at : ℕ) : Type 0 where
   pub pings : test (telling.ping_put m conn at) ≡ false
 
 -- nor a step of a node's listener
-pub record NoneListened (test : Telling → Bool) (m name : ℕ) : Type 0 where
+pub record NoneListened (test : Telling → Bool) (m name at : ℕ) : Type 0 where
   pub took : (link : ℕ) (handshake : Option ℕ) → test (telling.arrival_taken m link handshake) ≡ false
-  pub begun : test (telling.handshake_begun m name) ≡ false
+  pub begun : (from : IpAddr) (key : Key) (link : ℕ) → test (telling.handshake_begun m name from key link at) ≡ false
   pub drops : (link : ℕ) → test (telling.end_dropped link side.In) ≡ false
 
 -- nor a step of a handshake
 pub record NoneShaken (test : Telling → Bool) (m h : ℕ) : Type 0 where
   pub took : (items : List Item) → test (telling.handshake_took m h items) ≡ false
-  pub over : (link : ℕ) → test (telling.handshake_ended m h link) ≡ false
+  pub over : (link : Option ℕ) → test (telling.handshake_ended m h link) ≡ false
   pub drops : (link : ℕ) → test (telling.end_dropped link side.In) ≡ false
 
 -- nor a step of a listener of what it took
@@ -83,7 +83,7 @@ pub record NoneHeard (test : Telling → Bool) (m at : ℕ) : Type 0 where
 pub record NoneStopped (test : Telling → Bool) (m : ℕ) : Type 0 where
   pub stops : test (telling.node_stopped m) ≡ false
   pub attempt : (k : ℕ) → test (telling.attempt_ended m k) ≡ false
-  pub handshake : (h link : ℕ) → test (telling.handshake_ended m h link) ≡ false
+  pub handshake : (h : ℕ) (link : Option ℕ) → test (telling.handshake_ended m h link) ≡ false
   pub connection : (conn : ℕ) → test (telling.connection_ended m conn) ≡ false
   pub drops : (link : ℕ) (s : Side) → test (telling.end_dropped link s) ≡ false
 
@@ -101,7 +101,7 @@ module _ (test : Telling → Bool) (name at : ℕ) where
   NoneTold (act.RecvStep conn m) = NoneReceived test m conn × ((i : Item) → test (telling.item_admitted m conn at i) ≡ false)
   NoneTold (act.Close c m) = test (telling.reader_dropped m c) ≡ false
   NoneTold (act.Dialer m) = NoneDialed test m name at
-  NoneTold (act.Listener m) = NoneListened test m name × NoneHeard test m at
+  NoneTold (act.Listener m) = NoneListened test m name at × NoneHeard test m at
   NoneTold (act.Handshake h m) = NoneShaken test m h
   NoneTold (act.Spawner m) = (key : Key) (link : ℕ) → test (telling.connection_made m name key link) ≡ false
   NoneTold (act.Attempt e m) = NoneTried test m e at
@@ -123,35 +123,37 @@ module _ (test : Telling → Bool) (name at : ℕ) where
   half_quiet None h = refl
   half_quiet (Some half) h = one (telling.end_dropped half.link half.writes) (h half.link half.writes)
 
-  turned_quiet : (o : Option ℕ) → ((link : ℕ) → test (telling.end_dropped link side.In) ≡ false) → list_any test (listening_dropped o) ≡ false
+  pub turned_quiet : (o : Option ℕ) → ((link : ℕ) → test (telling.end_dropped link side.In) ≡ false) → list_any test (listening_dropped o) ≡ false
   turned_quiet None h = refl
   turned_quiet (Some link) h = one (telling.end_dropped link side.In) (h link)
 
   pub gates_quiet : (r : Reply) (items : List Item) → ((link : ℕ) → test (telling.end_dropped link side.In) ≡ false) → list_any test (gates_tell r items) ≡ false
   gates_quiet r items h = when_quiet test (turns_away r) (listening_dropped (arrival_link items)) (turned_quiet (arrival_link items) h)
 
-  pub begun_quiet : (m : ℕ) (r : Reply) → test (telling.handshake_begun m name) ≡ false → list_any test (begun_tells m (admitted_as name r)) ≡ false
-  begun_quiet m (reply.Gates gates.Admitted) h = one (telling.handshake_begun m name) h
-  begun_quiet m (reply.Gates _) h = refl
-  begun_quiet m _ h = refl
+  pub begun_quiet : (m : ℕ) (r : Reply) (items : List Item) → ((from : IpAddr) (key : Key) (link : ℕ) → test (telling.handshake_begun m name from key link at) ≡ false)
+      → list_any test (begun_tells m at (admitted_as name r) items) ≡ false
+  begun_quiet m (reply.Gates gates.Admitted) (item.Arrival from key link ∷ items) h = one (telling.handshake_begun m name from.ip key link at) (h from.ip key link)
+  begun_quiet m (reply.Gates gates.Admitted) _ h = refl
+  begun_quiet m (reply.Gates _) items h = refl
+  begun_quiet m _ items h = refl
 
   pub arrival_quiet : (m : ℕ) (handshake : Option ℕ) (items : List Item) → ((link : ℕ) (o : Option ℕ) → test (telling.arrival_taken m link o) ≡ false) → list_any test (arrival_tells m handshake items) ≡ false
   arrival_quiet m handshake (item.Arrival from key link ∷ items) h = one (telling.arrival_taken m link handshake) (h link handshake)
   arrival_quiet m handshake _ h = refl
 
-  pub listener_quiet : (m : ℕ) (r : Reply) (items : List Item) → NoneListened test m name
-      → list_any test (arrival_tells m (admitted_as name r) items ++ (begun_tells m (admitted_as name r) ++ gates_tell r items)) ≡ false
+  pub listener_quiet : (m : ℕ) (r : Reply) (items : List Item) → NoneListened test m name at
+      → list_any test (arrival_tells m (admitted_as name r) items ++ (begun_tells m at (admitted_as name r) items ++ gates_tell r items)) ≡ false
   listener_quiet m r items h =
-      append_quiet test (arrival_tells m (admitted_as name r) items) (begun_tells m (admitted_as name r) ++ gates_tell r items) (arrival_quiet m (admitted_as name r) items h.took)
-      (append_quiet test (begun_tells m (admitted_as name r)) (gates_tell r items) (begun_quiet m r h.begun) (gates_quiet r items h.drops))
+      append_quiet test (arrival_tells m (admitted_as name r) items) (begun_tells m at (admitted_as name r) items ++ gates_tell r items) (arrival_quiet m (admitted_as name r) items h.took)
+      (append_quiet test (begun_tells m at (admitted_as name r) items) (gates_tell r items) (begun_quiet m r items h.begun) (gates_quiet r items h.drops))
 
-  shaken_quiet : (m h link : ℕ) (over broke : Bool) (items : List Item) → NoneShaken test m h
-      → list_any test (handshake_tells m h link over items ++ when broke (telling.end_dropped link side.In ∷ [])) ≡ false
+  shaken_quiet : (m h : ℕ) (link : Option ℕ) (over broke : Bool) (items : List Item) → NoneShaken test m h
+      → list_any test (handshake_tells m h link over items ++ when broke (listening_dropped link)) ≡ false
   shaken_quiet m h link over broke items none =
-      more (telling.handshake_took m h items) (when over (telling.handshake_ended m h link ∷ []) ++ when broke (telling.end_dropped link side.In ∷ [])) (none.took items)
-      (append_quiet test (when over (telling.handshake_ended m h link ∷ [])) (when broke (telling.end_dropped link side.In ∷ []))
+      more (telling.handshake_took m h items) (when over (telling.handshake_ended m h link ∷ []) ++ when broke (listening_dropped link)) (none.took items)
+      (append_quiet test (when over (telling.handshake_ended m h link ∷ [])) (when broke (listening_dropped link))
       (when_quiet test over (telling.handshake_ended m h link ∷ []) (one (telling.handshake_ended m h link) (none.over link)))
-      (when_quiet test broke (telling.end_dropped link side.In ∷ []) (one (telling.end_dropped link side.In) (none.drops link))))
+      (when_quiet test broke (listening_dropped link) (turned_quiet link none.drops)))
 
   -- what a half tells of its end is that its connection ended, or nothing of such things
   pub over_told : (m conn : ℕ) (r : Reply) (half : Option Half) → ((link : ℕ) (s : Side) → test (telling.end_dropped link s) ≡ false)
@@ -249,20 +251,21 @@ module _ (test : Telling → Bool) (name at : ℕ) where
   pub stop_quiet : (ts : List Telling) (before : List Entry) (m : ℕ) → NoneStopped test m → list_any test (stop_tells ts before m) ≡ false
   stop_quiet ts before m h =
       more (telling.node_stopped m)
-      (messages_stop ts m messages ++ (arrivals_stop arrivals ++ (flat_map (attempt_stops ts m) (attempts_in ts m) ++ (flat_map (handshake_stops before m) (handshakes_in ts m) ++ flat_map (connection_stops ts m) (connections_in ts m)))))
+      (messages_stop ts m messages ++ (arrivals_stop arrivals ++ (flat_map (attempt_stops ts m) (attempts_in ts m) ++ (flat_map (handshake_stops ts m) (handshakes_in ts m) ++ flat_map (connection_stops ts m) (connections_in ts m)))))
       h.stops
       (append_quiet test (messages_stop ts m messages)
-      (arrivals_stop arrivals ++ (flat_map (attempt_stops ts m) (attempts_in ts m) ++ (flat_map (handshake_stops before m) (handshakes_in ts m) ++ flat_map (connection_stops ts m) (connections_in ts m))))
+      (arrivals_stop arrivals ++ (flat_map (attempt_stops ts m) (attempts_in ts m) ++ (flat_map (handshake_stops ts m) (handshakes_in ts m) ++ flat_map (connection_stops ts m) (connections_in ts m))))
       (each_quiet (λ (x : Envelope). half_dropped (half_to_be ts m x.item)) messages (λ x. half_quiet (half_to_be ts m x.item) h.drops))
       (append_quiet test (arrivals_stop arrivals)
-      (flat_map (attempt_stops ts m) (attempts_in ts m) ++ (flat_map (handshake_stops before m) (handshakes_in ts m) ++ flat_map (connection_stops ts m) (connections_in ts m)))
+      (flat_map (attempt_stops ts m) (attempts_in ts m) ++ (flat_map (handshake_stops ts m) (handshakes_in ts m) ++ flat_map (connection_stops ts m) (connections_in ts m)))
       (each_quiet (λ (x : Envelope). listening_dropped (arrival_link (x.item ∷ []))) arrivals (λ x. turned_quiet (arrival_link (x.item ∷ [])) (λ link. h.drops link side.In)))
       (append_quiet test (flat_map (attempt_stops ts m) (attempts_in ts m))
-      (flat_map (handshake_stops before m) (handshakes_in ts m) ++ flat_map (connection_stops ts m) (connections_in ts m))
+      (flat_map (handshake_stops ts m) (handshakes_in ts m) ++ flat_map (connection_stops ts m) (connections_in ts m))
       (each_quiet (attempt_stops ts m) (attempts_in ts m) (λ k. more (telling.attempt_ended m k) (dialing_dropped (link_in ts m k)) (h.attempt k) (cut_quiet (link_in ts m k) (λ link. h.drops link side.Out))))
-      (append_quiet test (flat_map (handshake_stops before m) (handshakes_in ts m)) (flat_map (connection_stops ts m) (connections_in ts m))
-      (each_quiet (handshake_stops before m) (handshakes_in ts m)
-      (λ k. more (telling.handshake_ended m k (peer_at before k).link) (telling.end_dropped (peer_at before k).link side.In ∷ []) (h.handshake k (peer_at before k).link) (one (telling.end_dropped (peer_at before k).link side.In) (h.drops (peer_at before k).link side.In))))
+      (append_quiet test (flat_map (handshake_stops ts m) (handshakes_in ts m)) (flat_map (connection_stops ts m) (connections_in ts m))
+      (each_quiet (handshake_stops ts m) (handshakes_in ts m)
+      (λ k. more (telling.handshake_ended m k (link_over (handshake_in ts k))) (listening_dropped (link_over (handshake_in ts k))) (h.handshake k (link_over (handshake_in ts k)))
+      (turned_quiet (link_over (handshake_in ts k)) (λ link. h.drops link side.In))))
       (each_quiet (connection_stops ts m) (connections_in ts m)
       (λ conn. more (telling.connection_ended m conn) (half_dropped (half_in ts m conn)) (h.connection conn) (half_quiet (half_in ts m conn) h.drops)))))))
     where
@@ -291,8 +294,8 @@ module _ (test : Telling → Bool) (name at : ℕ) where
   quiet_act ts before seed r items puts (act.Dialer m) h =
       append_quiet test (answer_tells m (last_or 0 (asks_list m) ts) name at seed items) (ask_tells m at items puts) (answer_quiet m (last_or 0 (asks_list m) ts) seed items h) (ask_quiet m items puts h.due h.dials h.asks)
   quiet_act ts before seed r items puts (act.Listener m) h =
-      append_quiet test (arrival_tells m (admitted_as name r) items ++ (begun_tells m (admitted_as name r) ++ gates_tell r items)) (heard_tells m at r items) (listener_quiet m r items h.0) (heard_quiet m r items h.1)
-  quiet_act ts before seed r items puts (act.Handshake e m) h = shaken_quiet m e (peer_at before e).link (ends_handshake r items) (broke_off r items puts) items h
+      append_quiet test (arrival_tells m (admitted_as name r) items ++ (begun_tells m at (admitted_as name r) items ++ gates_tell r items)) (heard_tells m at r items) (listener_quiet m r items h.0) (heard_quiet m r items h.1)
+  quiet_act ts before seed r items puts (act.Handshake e m) h = shaken_quiet m e (link_over (handshake_in ts e)) (ends_handshake r items) (broke_off r items puts) items h
   quiet_act ts before seed r items puts (act.Spawner m) h = spawn_quiet m items h
   quiet_act ts before seed r items puts (act.Attempt e m) h = step_quiet m e seed items (link_in ts m e) puts h
   quiet_act ts before seed r items puts (act.Resolve addresses e m) h = done_quiet test r (telling.addresses_told m e ∷ []) (one (telling.addresses_told m e) h)

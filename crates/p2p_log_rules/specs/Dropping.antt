@@ -15,7 +15,7 @@ use Rattle.p2p_log.specs.Lines.{line}
 use Rattle.p2p_log_rules.specs.declared.row.Half.{Half}
 use Rattle.p2p_log_rules.specs.declared.row.Row.{Row}
 use Rattle.p2p_log_rules.specs.Attempting.{attempt_row}
-use Rattle.p2p_log_rules.specs.Handshakes.{peer_at}
+use Rattle.p2p_log_rules.specs.Handshakes.{came_over}
 use Rattle.p2p_log_rules.specs.Handshaking.{handshake_row}
 use Rattle.p2p_log_rules.specs.Listening.{listener_row}
 use Rattle.p2p_log_rules.specs.Puts.{gave_up, broke_off, turns_away, arrival_link}
@@ -63,9 +63,13 @@ drops_of log e = drops_in (tells (told log) log e)
 abbrev pub dialing_end : List Entry → ℕ → ℕ → Option LinkEnd
 dialing_end log n k = option_map (λ link. (link, side.Out)) (link_in (told log) n k)
 
--- the end of an arrival
+-- the listening end of a link over which a peer came
+abbrev pub listening_end : Option ℕ → Option LinkEnd
+listening_end o = option_map (λ link. (link, side.In)) o
+
+-- that of an arrival
 abbrev pub arrival_end : List Item → Option LinkEnd
-arrival_end items = option_map (λ link. (link, side.In)) (arrival_link items)
+arrival_end items = listening_end (arrival_link items)
 
 -- that of the oldest of these
 abbrev pub oldest_end : List Envelope → Option LinkEnd
@@ -100,13 +104,13 @@ abbrev pub attempt_step_row : List Config → List Entry → ℕ → ℕ → ℕ
 attempt_step_row configs log e n at seed = attempt_drops log e n (attempt_row configs log e n at seed)
 
 -- and so does a handshake, by what it took
-abbrev pub handshake_drops : List Entry → ℕ → List Envelope → Row → Row
+abbrev pub handshake_drops : List Entry → Option ℕ → List Envelope → Row → Row
 handshake_drops log link waiting r =
-    dropping log (cond (broke_off r.reply (map (λ x. x.item) (take 1 waiting)) r.puts) (Some (link, side.In)) None) r
+    dropping log (cond (broke_off r.reply (map (λ x. x.item) (take 1 waiting)) r.puts) (listening_end link) None) r
 
 abbrev pub handshake_step_row : List Config → List Entry → ℕ → ℕ → ℕ → Row
 handshake_step_row configs log name n at =
-    handshake_drops log (peer_at log name).link (line log (queue.Handshake n name)) (handshake_row configs log name n at)
+    handshake_drops log (came_over log name) (line log (queue.Handshake n name)) (handshake_row configs log name n at)
 
 -- and a listener that of an arrival that it turns away
 abbrev pub listener_drops : List Entry → ℕ → Row → Row

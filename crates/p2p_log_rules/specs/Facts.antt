@@ -13,8 +13,8 @@ use Rattle.p2p_log.specs.declared.event.Event.{Event}
 use Rattle.p2p_log.specs.declared.event.Rate.{Rate}
 pub use Rattle.p2p_log_rules.specs.Asked.{events_of, starts, stops, turns, capacity_for, with_capacity, registers_at, rates_by}
 unfoldable pub use Rattle.p2p_log_rules.specs.Asked.{has_started, registered}
-pub use Rattle.p2p_log_rules.specs.Taking.{item_put, item_in, item_named, taken_in, with_named, with_begun, history}
-unfoldable pub use Rattle.p2p_log_rules.specs.Taking.{taken, taken_at, history_from, state_from}
+pub use Rattle.p2p_log_rules.specs.Taking.{item_put, item_in, item_named, with_named, with_begun, history}
+unfoldable pub use Rattle.p2p_log_rules.specs.Taking.{taken, history_from, state_from}
 pub use Rattle.p2p_log_rules.specs.Quotas.{rate_told, rate_in}
 use Rattle.p2p_log_rules.specs.Quotas.{rates_in}
 use Rattle.p2p_log_rules.specs.Routed.{peers_in}
@@ -45,14 +45,6 @@ is_up log n = is_started log n && not (is_stopped log n)
 abbrev pub latest_moment : List Event → ℕ
 latest_moment [] = 0
 latest_moment (v ∷ vs) = max v.at (latest_moment vs)
-
-abbrev pub moment_of : Option Entry → ℕ
-moment_of None = 0
-moment_of (Some e) = e.event.at
-
--- the moment of the entry of this name
-abbrev pub moment_at : List Entry → ℕ → ℕ
-moment_at log name = moment_of (slice_get log name)
 
 -- ---- channels
 

@@ -1,13 +1,29 @@
 -- The handshakes of a node that have not ended, and what they took, by what was told.
-use Rattle.std.specs.Prelude.{ℕ, ◌==◌, ◌&&◌, Bool, false, List}
+use Rattle.std.specs.Prelude.{ℕ, ◌==◌, ◌&&◌, Bool, false, List, Option}
 use Rattle.std.specs.List.{list_any}
+use Rattle.std.specs.Option.{option_map}
+use Rattle.p2p_address.specs.declared.ip.IpAddr.{IpAddr}
 use Rattle.p2p_log.specs.declared.item.Item.{Item}
 use Rattle.p2p_log.specs.declared.entry.Entry.{Entry}
-pub use Rattle.p2p_log_rules.specs.HandshakeSteps.{ends_handshake, takes_acceptance, takes_exchange, source_of, source_at, Peer, peer_of, peer_at}
+pub use Rattle.p2p_log_rules.specs.HandshakeSteps.{ends_handshake, takes_acceptance, takes_exchange}
 use Rattle.p2p_log_rules.specs.Tellings.{Telling, any_or}
 use Rattle.p2p_log_rules.specs.Tellings as telling
-pub use Rattle.p2p_log_rules.specs.Told.{begins_handshake, ends_named}
-use Rattle.p2p_log_rules.specs.Told.{told, handshakes_in}
+pub use Rattle.p2p_log_rules.specs.Told.{Handshake, begins_handshake, ends_named}
+use Rattle.p2p_log_rules.specs.Told.{told, handshake_in, link_over, handshakes_in}
+
+-- ---- what began them
+
+-- what began the handshake of this name, where one began
+abbrev pub handshake_at : List Entry → ℕ → Option Handshake
+handshake_at log name = handshake_in (told log) name
+
+-- the address from which its peer came
+abbrev pub source_at : List Entry → ℕ → Option IpAddr
+source_at log name = option_map (λ (h : Handshake). h.source) (handshake_at log name)
+
+-- and the link over which it came
+abbrev pub came_over : List Entry → ℕ → Option ℕ
+came_over log name = link_over (handshake_at log name)
 
 -- ---- those that have not ended
 

@@ -7,7 +7,7 @@ use Rattle.p2p_log.specs.declared.entry.Entry.{Entry}
 use Rattle.p2p_log_rules.specs.declared.row.Opening.{Opening}
 use Rattle.p2p_log_rules.specs.Tellings.{Telling, Last, last_told, last_or}
 use Rattle.p2p_log_rules.specs.Tellings as telling
-use Rattle.p2p_log_rules.specs.Told.{told}
+use Rattle.p2p_log_rules.specs.Told.{told, is_link}
 
 pub data Holder : Type 0 where
   -- an arrival that the listener of this node has yet to take
@@ -36,7 +36,7 @@ passes_out link o _ = None
 -- and what its listening end: the listener that takes the arrival, the handshake that ends, and those
 abbrev pub passes_in : ℕ → Opening → Telling → Option (Option Holder)
 passes_in link o (telling.arrival_taken m l h) = cond ((o.to == m) && (link == l)) (Some (option_map (handshake m) h)) None
-passes_in link o (telling.handshake_ended m h l) = cond ((o.to == m) && (link == l)) (Some (Some (message m))) None
+passes_in link o (telling.handshake_ended m h l) = cond ((o.to == m) && is_link link l) (Some (Some (message m))) None
 passes_in link o (telling.connection_made m conn key l) = cond ((o.to == m) && (link == l)) (Some (Some (connection m conn))) None
 passes_in link o (telling.end_dropped l side.In) = cond (link == l) (Some None) None
 passes_in link o _ = None

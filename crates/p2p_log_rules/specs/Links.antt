@@ -20,7 +20,7 @@ use Rattle.p2p_log_rules.specs.Handshakes.{is_accepted}
 use Rattle.p2p_log_rules.specs.Rows.{only}
 use Rattle.p2p_log_rules.specs.Tellings.{Telling, last_or}
 use Rattle.p2p_log_rules.specs.Tellings as telling
-use Rattle.p2p_log_rules.specs.Told.{told}
+use Rattle.p2p_log_rules.specs.Told.{told, is_link}
 
 -- ---- between whom keys are exchanged
 
@@ -40,7 +40,7 @@ openings_of log link = last_or None (opens_exchange link) (told log)
 abbrev pub has_listening : ℕ → ℕ → Telling → Option (Option ListeningEnd)
 has_listening n link (telling.link_opened m j l to) = cond ((to == n) && (link == l)) (Some (Some listening.Arriving)) None
 has_listening n link (telling.arrival_taken m l handshake) = cond ((m == n) && (link == l)) (Some (option_map listening.Handshake handshake)) None
-has_listening n link (telling.handshake_ended m h l) = cond ((m == n) && (link == l)) (Some None) None
+has_listening n link (telling.handshake_ended m h l) = cond ((m == n) && is_link link l) (Some None) None
 has_listening n link (telling.node_stopped m) = cond (m == n) (Some None) None
 has_listening n link _ = None
 

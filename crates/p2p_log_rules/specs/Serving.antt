@@ -19,7 +19,7 @@ use Rattle.p2p_log_rules.specs.Effect.{route_row, batch_size_at, batch, written_
 use Rattle.p2p_log_rules.specs.Effect as effect
 use Rattle.p2p_log_rules.specs.Ending.{end_row}
 use Rattle.p2p_log_rules.specs.First.{Actor, tracker, router, spawner, dialer, listener, attempt, handshake, sender, receiver, Input, takes, begins, step_row}
-use Rattle.p2p_log_rules.specs.Handshakes.{Peer, peer_at}
+use Rattle.p2p_log_rules.specs.Handshakes.{Handshake, handshake_at, came_over}
 use Rattle.p2p_log_rules.specs.Handshaking.{ended_row}
 use Rattle.p2p_log_rules.specs.Handshaking as handshaking
 use Rattle.p2p_log_rules.specs.Listening.{gate_rules_at, known_of, has_place, arrived_row}
@@ -67,9 +67,10 @@ attempt_serves n full private seed (Some a) _ = given_up_row n a.key [] []
 attempt_serves n full private seed None i = only reply.Gone
 
 -- and so a handshake
-abbrev pub handshake_serves : ℕ → Bool → ℕ → Peer → Input → Row
-handshake_serves n full name peer (takes q x rest) = handshaking.handshake_took_row n full name peer (name_of x) x.item rest
-handshake_serves n full name peer _ = ended_row [] []
+abbrev pub handshake_serves : ℕ → Bool → ℕ → Option Handshake → Input → Row
+handshake_serves n full name (Some h) (takes q x rest) = handshaking.handshake_took_row n full name h (name_of x) x.item rest
+handshake_serves n full name (Some h) _ = ended_row [] []
+handshake_serves n full name None i = only reply.Gone
 
 -- a sending half: it begins; it takes its router's answer, that it ends, or a batch; else a ping is due
 abbrev pub sender_serves : List Config → List Entry → ℕ → ℕ → Option Half → Input → Row
@@ -103,7 +104,7 @@ serves configs log at seed (listener n) = λ i. listener_drops log n (listener_s
 serves configs log at seed (attempt n k) =
     λ i. attempt_drops log k n (attempt_serves n (is_spawner_full configs log n) (dial_rules_at configs n).private seed (attempts_of configs log n k) i)
 serves configs log at seed (handshake n h) =
-    λ i. handshake_drops log (peer_at log h).link (line log (queue.Handshake n h)) (handshake_serves n (is_spawner_full configs log n) h (peer_at log h) i)
+    λ i. handshake_drops log (came_over log h) (line log (queue.Handshake n h)) (handshake_serves n (is_spawner_full configs log n) h (handshake_at log h) i)
 serves configs log at seed (sender n conn) = sender_serves configs log n conn (live_half log n conn)
 serves configs log at seed (receiver n conn) = receiver_serves configs log n conn at (live_half log n conn)
 

@@ -2,7 +2,6 @@
 use Rattle.std.specs.Prelude.{ℕ, cond, List, [], ◌∷◌, ◌++◌, flat_map, Option, Some, None}
 use Rattle.p2p_log.specs.declared.queue.Queue.{Queue}
 use Rattle.p2p_log.specs.declared.queue.Queue.TheVariants as queue
-use Rattle.p2p_log.specs.declared.queue.Side.TheVariants as side
 use Rattle.p2p_log.specs.declared.item.Item.{Item}
 use Rattle.p2p_log.specs.declared.item.Envelope.{Envelope}
 use Rattle.p2p_log.specs.declared.end.Cause.TheVariants as cause
@@ -13,10 +12,10 @@ use Rattle.p2p_log.specs.Lines.{live, line}
 use Rattle.p2p_log_rules.specs.declared.row.Half.{Half}
 use Rattle.p2p_log_rules.specs.declared.row.Row.{Row}
 use Rattle.p2p_log_rules.specs.Connections.{half_at}
-use Rattle.p2p_log_rules.specs.Dropping.{LinkEnd, other_side, dialing_end, arrival_end, half_end}
+use Rattle.p2p_log_rules.specs.Dropping.{LinkEnd, other_side, dialing_end, listening_end, arrival_end, half_end}
 use Rattle.p2p_log_rules.specs.Ending.{queues_with}
 use Rattle.p2p_log_rules.specs.Facts.{is_stopped}
-use Rattle.p2p_log_rules.specs.Handshakes.{handshakes_of, peer_at}
+use Rattle.p2p_log_rules.specs.Handshakes.{handshakes_of, came_over}
 use Rattle.p2p_log_rules.specs.Rows.{only}
 use Rattle.p2p_log_rules.specs.Told.{told, half_to_be, attempts_in, connections_in}
 
@@ -39,7 +38,7 @@ abbrev pub with_attempt : List Entry → ℕ → ℕ → List Queue
 with_attempt log n k = queue.Attempt n k ∷ towards (dialing_end log n k)
 
 abbrev pub with_handshake : List Entry → ℕ → ℕ → List Queue
-with_handshake log n h = queue.Handshake n h ∷ towards (Some ((peer_at log h).link, side.In))
+with_handshake log n h = queue.Handshake n h ∷ towards (listening_end (came_over log h))
 
 -- with a connection what is emptied where it ends of itself
 abbrev pub with_half : ℕ → ℕ → Option Half → List Queue

@@ -1,5 +1,5 @@
 -- What entries took, and what stands after a log.
-use Rattle.std.specs.Prelude.{ℕ, ◌==◌, cond, List, [], ◌∷◌, ◌++◌, flat_map, take, Option, Some, None, slice_get}
+use Rattle.std.specs.Prelude.{ℕ, ◌==◌, cond, List, [], ◌∷◌, ◌++◌, flat_map, Option, Some, None, slice_get}
 use Rattle.p2p_log.specs.declared.queue.Queue.{Queue}
 use Rattle.p2p_log.specs.declared.item.Item.{Item}
 use Rattle.p2p_log.specs.declared.entry.Entry.{Entry}
@@ -21,14 +21,6 @@ item_named log name = item_in (slice_get log name.0) name.1
 -- the items that an entry took, with the entries before it
 unfoldable pub taken : List Entry → Entry → List Item
 taken before e = flat_map (item_named before) e.takes
-
-abbrev pub taken_in : List Entry → Option Entry → List Item
-taken_in before None = []
-taken_in before (Some e) = taken before e
-
--- the items that the entry of this name took
-unfoldable pub taken_at : List Entry → ℕ → List Item
-taken_at log name = taken_in (take name log) (slice_get log name)
 
 -- what each entry adds to a history, given the entries before it
 unfoldable pub history_from : {X : Type 0} → (List Entry → Entry → List X) → List Entry → List Entry → List X

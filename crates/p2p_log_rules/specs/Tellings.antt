@@ -6,10 +6,10 @@ use Rattle.p2p_address.specs.declared.ip.IpAddr.{IpAddr}
 use Rattle.p2p_address.specs.declared.ip.SocketAddr.{SocketAddr}
 use Rattle.p2p_address.specs.declared.peer.Address.{Address}
 use Rattle.p2p_address.specs.declared.peer.Ingress.{Ingress}
-use Rattle.p2p_tracker_calls.specs.declared.gates.Reply.{Reply as Gates}
 use Rattle.p2p_log.specs.declared.queue.Side.{Side}
 use Rattle.p2p_log.specs.declared.item.Item.{Item}
 use Rattle.p2p_log.specs.declared.event.Rate.{Rate}
+use Rattle.p2p_tracker_calls.specs.declared.gates.Reply.{Reply as Gates}
 
 -- one thing that an entry tells: each names the thing that it is of, and has what it tells of it
 pub data Telling : Type 0 where
@@ -53,12 +53,12 @@ pub data Telling : Type 0 where
   link_cut : (link : ℕ) → Telling
   -- a node's listener took the arrival over a link, for the handshake of this name where it admitted it
   arrival_taken : (node link : ℕ) (handshake : Option ℕ) → Telling
-  -- a handshake began, of this name
-  handshake_begun : (node handshake : ℕ) → Telling
+  -- a handshake began at this moment, of this name: with the peer of this key, which came from this address over this link
+  handshake_begun : (node handshake : ℕ) (from : IpAddr) (key : Key) (link at : ℕ) → Telling
   -- it took these
   handshake_took : (node handshake : ℕ) (items : List Item) → Telling
-  -- it ended, and has the listening end of this link no more
-  handshake_ended : (node handshake link : ℕ) → Telling
+  -- it ended, and has the listening end of this link no more, over which its peer came
+  handshake_ended : (node handshake : ℕ) (link : Option ℕ) → Telling
   -- the sending half of a connection did a step
   half_stepped : (node conn : ℕ) → Telling
   -- a connection ended

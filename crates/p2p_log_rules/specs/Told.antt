@@ -1,5 +1,6 @@
 -- What an entry tells, and what a log does: the one place that says what an act tells.
 use Rattle.std.specs.Prelude.{ℕ, Bool, false, ◌==◌, ◌&&◌, not, cond, List, [], ◌∷◌, ◌++◌, filter, flat_map, length, Option, Some, None}
+use Rattle.std.specs.Option.{option_map}
 use Rattle.std.specs.List.{list_any}
 use Rattle.p2p_base.specs.declared.key.Key.{Key}
 use Rattle.p2p_address.specs.declared.ip.IpAddr.{IpAddr}
@@ -22,13 +23,13 @@ use Rattle.p2p_log.specs.Lines.{line}
 use Rattle.p2p_log_rules.specs.declared.row.Half.{Half}
 use Rattle.p2p_log_rules.specs.HalfSteps.{is_done, is_end, puts_ping, holds}
 use Rattle.p2p_log_rules.specs.Halves.{half_in, half_by}
-use Rattle.p2p_log_rules.specs.HandshakeSteps.{ends_handshake, peer_at}
+use Rattle.p2p_log_rules.specs.HandshakeSteps.{ends_handshake}
 use Rattle.p2p_log_rules.specs.Puts.{gave_up, ends_attempt, broke_off, is_answer, turns_away, is_peer_set, arrival_link}
 use Rattle.p2p_log_rules.specs.Quotas.{rate_in, rates_in, keys_by, moments_in}
 use Rattle.p2p_log_rules.specs.Standing.{standing}
 use Rattle.p2p_log_rules.specs.Taking.{taken, state_from}
 use Rattle.p2p_log_rules.specs.Routed.{router_tells, peers_in}
-use Rattle.p2p_log_rules.specs.Tellings.{Telling, Last, last_told, last_or}
+use Rattle.p2p_log_rules.specs.Tellings.{Telling, Last, last_told, last_or, first_or}
 use Rattle.p2p_log_rules.specs.Tellings as telling
 use Rattle.p2p_log_rules.specs.Tracked.{tracker_tells}
 
@@ -66,6 +67,29 @@ opened_since n k (Some l) = cond (list_any (ends n k) l.since) None (last_or Non
 -- that of an attempt that has not ended
 abbrev pub link_in : List Telling → ℕ → ℕ → Option ℕ
 link_in ts n k = opened_since n k (last_told (begun_as n k) ts)
+
+-- what begins a handshake: the address from which its peer came, its key, the link over which it came, and the moment
+pub record Handshake : Type 0 where
+  pub source : IpAddr
+  pub key : Key
+  pub link : ℕ
+  pub at : ℕ
+
+-- the one of this name
+abbrev pub handshake_begun_as : ℕ → Telling → Option Handshake
+handshake_begun_as h (telling.handshake_begun n k from key link at) = cond (h == k) (Some (record { source = from; key = key; link = link; at = at })) None
+handshake_begun_as h _ = None
+
+abbrev pub handshake_in : List Telling → ℕ → Option Handshake
+handshake_in ts h = first_or None (handshake_begun_as h) ts
+
+-- the link over which its peer came
+abbrev pub link_over : Option Handshake → Option ℕ
+link_over o = option_map (λ (s : Handshake). s.link) o
+
+abbrev pub is_link : ℕ → Option ℕ → Bool
+is_link link None = false
+is_link link (Some l) = link == l
 
 -- ---- what an entry tells
 
@@ -136,9 +160,10 @@ abbrev pub admitted_as : ℕ → Reply → Option ℕ
 admitted_as name (reply.Gates gates.Admitted) = Some name
 admitted_as name _ = None
 
-abbrev pub begun_tells : ℕ → Option ℕ → List Telling
-begun_tells n None = []
-begun_tells n (Some h) = telling.handshake_begun n h ∷ []
+-- which begins with the arrival that was taken, at a moment
+abbrev pub begun_tells : ℕ → ℕ → Option ℕ → List Item → List Telling
+begun_tells n at (Some h) (item.Arrival from key link ∷ items) = telling.handshake_begun n h from.ip key link at ∷ []
+begun_tells n at _ _ = []
 
 -- the arrival that a listener took
 abbrev pub arrival_tells : ℕ → Option ℕ → List Item → List Telling
@@ -146,7 +171,7 @@ arrival_tells n handshake (item.Arrival from key link ∷ items) = telling.arriv
 arrival_tells n handshake _ = []
 
 -- what a handshake took whose peer came over this link, and whether it ended
-abbrev pub handshake_tells : ℕ → ℕ → ℕ → Bool → List Item → List Telling
+abbrev pub handshake_tells : ℕ → ℕ → Option ℕ → Bool → List Item → List Telling
 handshake_tells n h link over items = telling.handshake_took n h items ∷ when over (telling.handshake_ended n h link ∷ [])
 
 -- the connection that a spawner made of what it took, in an entry of this name
@@ -224,7 +249,7 @@ attempt_stops ts n k = telling.attempt_ended n k ∷ dialing_dropped (link_in ts
 
 -- the handshakes that have not ended
 abbrev pub begins_handshake : ℕ → Telling → Option ℕ
-begins_handshake n (telling.handshake_begun m h) = cond (m == n) (Some h) None
+begins_handshake n (telling.handshake_begun m h from key link at) = cond (m == n) (Some h) None
 begins_handshake n _ = None
 
 abbrev pub ends_named : ℕ → ℕ → Telling → Bool
@@ -234,8 +259,8 @@ ends_named n name _ = false
 abbrev pub handshakes_in : List Telling → ℕ → List ℕ
 handshakes_in ts n = standing (begins_handshake n) (ends_named n) ts
 
-abbrev pub handshake_stops : List Entry → ℕ → ℕ → List Telling
-handshake_stops before n h = telling.handshake_ended n h (peer_at before h).link ∷ telling.end_dropped (peer_at before h).link side.In ∷ []
+abbrev pub handshake_stops : List Telling → ℕ → ℕ → List Telling
+handshake_stops ts n h = telling.handshake_ended n h (link_over (handshake_in ts h)) ∷ listening_dropped (link_over (handshake_in ts h))
 
 -- the connections that were made and have not ended
 abbrev pub made_in : ℕ → Telling → List ℕ
@@ -258,7 +283,7 @@ stop_tells ts before n =
     ∷ (messages_stop ts n (line before (queue.Spawner n))
     ++ (arrivals_stop (line before (queue.Arrivals n))
     ++ (flat_map (attempt_stops ts n) (attempts_in ts n)
-    ++ (flat_map (handshake_stops before n) (handshakes_in ts n)
+    ++ (flat_map (handshake_stops ts n) (handshakes_in ts n)
     ++ flat_map (connection_stops ts n) (connections_in ts n)))))
 
 -- after these tellings and entries, with this name, at a moment and with a seed; of this reply, which took and put these
@@ -280,9 +305,9 @@ module _ (ts : List Telling) (before : List Entry) (name at seed : ℕ) (r : Rep
   act_tells (act.Next question) = []
   act_tells (act.Tracker n) = tracker_tells before n at seed r items puts
   act_tells (act.Dialer n) = answer_tells n (last_or 0 (asks_list n) ts) name at seed items ++ ask_tells n at items puts
-  act_tells (act.Listener n) = (arrival_tells n (admitted_as name r) items ++ (begun_tells n (admitted_as name r) ++ gates_tell r items)) ++ heard_tells n at r items
+  act_tells (act.Listener n) = (arrival_tells n (admitted_as name r) items ++ (begun_tells n at (admitted_as name r) items ++ gates_tell r items)) ++ heard_tells n at r items
   act_tells (act.Handshake h n) =
-      handshake_tells n h (peer_at before h).link (ends_handshake r items) items ++ when (broke_off r items puts) (telling.end_dropped (peer_at before h).link side.In ∷ [])
+      handshake_tells n h (link_over (handshake_in ts h)) (ends_handshake r items) items ++ when (broke_off r items puts) (listening_dropped (link_over (handshake_in ts h)))
   act_tells (act.Spawner n) = spawn_tells n name items
   act_tells (act.Attempt k n) = took_tells n k at seed items ++ left_tells n k (link_in ts n k) puts
   act_tells (act.Resolve addresses k n) = done_tells r (telling.addresses_told n k ∷ [])

@@ -5,7 +5,6 @@ use Rattle.std.specs.List.{AllByRecursion as Each}
 use Rattle.p2p_log.specs.declared.entry.Entry.{Entry}
 use Rattle.p2p_log.specs.declared.queue.Queue.{Queue}
 use Rattle.p2p_log.specs.declared.queue.Queue.TheVariants as queue
-use Rattle.p2p_log.specs.declared.queue.Side.TheVariants as side
 use Rattle.p2p_log.specs.declared.item.Envelope.{Envelope}
 use Rattle.p2p_log.specs.declared.item.Item.{Item}
 use Rattle.p2p_log.specs.Drained.{drained, each_with, drained_with}
@@ -13,8 +12,8 @@ use Rattle.p2p_log.specs.Lines.{stands_in}
 use Rattle.p2p_log.proofs.Each.{Each-append}
 use Rattle.p2p_log_rules.specs.declared.row.Half.{Half}
 use Rattle.p2p_log_rules.specs.Connections.{half_at}
-use Rattle.p2p_log_rules.specs.Dropping.{LinkEnd, other_side, dialing_end}
-use Rattle.p2p_log_rules.specs.Handshakes.{handshakes_of, peer_at}
+use Rattle.p2p_log_rules.specs.Dropping.{LinkEnd, other_side, dialing_end, listening_end}
+use Rattle.p2p_log_rules.specs.Handshakes.{handshakes_of, came_over}
 use Rattle.p2p_log_rules.specs.Stopping.{towards, brought_to, brought_by, with_attempt, with_handshake, with_half, queues_at}
 use Rattle.p2p_log_rules.specs.Told.{told, attempts_in, connections_in}
 use Rattle.p2p_log_laws.proofs.Draining.{BringsNone, drained_with-then, drained_with-none}
@@ -37,7 +36,7 @@ module _ (log : List Entry) (n : ℕ) where
   attempt_none k = (plain log (queue.Attempt n k) (λ i. refl), towards_none (dialing_end log n k))
 
   handshake_none : (h : ℕ) → Each Plain (with_handshake log n h)
-  handshake_none h = (plain log (queue.Handshake n h) (λ i. refl), towards_none (Some ((peer_at log h).link, side.In)))
+  handshake_none h = (plain log (queue.Handshake n h) (λ i. refl), towards_none (listening_end (came_over log h)))
 
   half_none : (conn : ℕ) (o : Option Half) → Each Plain (with_half n conn o)
   half_none conn None = tt

@@ -16,8 +16,8 @@ use Rattle.p2p_log.proofs.Each.{Has}
 use Rattle.p2p_log_rules.specs.declared.row.Half.{Half}
 use Rattle.p2p_log_rules.specs.Connections.{half_at, is_ended, live_connection}
 use Rattle.p2p_log_rules.specs.Dialed.{dialer_of}
-use Rattle.p2p_log_rules.specs.Dropping.{LinkEnd, dialing_end, half_end}
-use Rattle.p2p_log_rules.specs.Handshakes.{handshakes_of, peer_at}
+use Rattle.p2p_log_rules.specs.Dropping.{LinkEnd, dialing_end, half_end, listening_end}
+use Rattle.p2p_log_rules.specs.Handshakes.{handshakes_of, came_over}
 use Rattle.p2p_log_rules.specs.Halves.{half_over}
 use Rattle.p2p_log_rules.specs.Spawning.{Spawned, connections_of}
 use Rattle.p2p_log_rules.specs.Stopping.{towards, with_attempt, with_handshake, with_half}
@@ -125,15 +125,15 @@ module _ (configs : List Config) (log : List Entry) (n : ℕ) (cs : Connections)
 -- ---- handshakes
 
 module _ (configs : List Config) (log : List Entry) (n : ℕ) (li : Listening) (s : ListenerStands configs log n li) (sorted : IsStrictlySortedBy nat_cmp (keys_of li.handshakes)) where
-  shake_end : (e : ℕ × Handshaking Key) → Has li.handshakes e → e.1.arrival.link ≡ (peer_at log e.0).link
+  shake_end : (e : ℕ × Handshaking Key) → Has li.handshakes e → came_over log e.0 ≡ Some e.1.arrival.link
   shake_end e has = handshake_link configs log n li s sorted e.0 e.1 has
 
   pub handshake_queues : queues_held (map (handshake_holder n) li.handshakes) ≡ flat_map (with_handshake log n) (handshakes_of log n)
   handshake_queues =
-      queues_named (handshake_holder n) (with_handshake log n) li.handshakes (λ e has. ap (λ link. queue.Handshake n e.0 ∷ towards (Some (link, side.In))) (shake_end e has))
+      queues_named (handshake_holder n) (with_handshake log n) li.handshakes (λ e has. ap (λ o. queue.Handshake n e.0 ∷ towards (listening_end o)) (sym (shake_end e has)))
       ∙ ap (flat_map (with_handshake log n)) (handshakes_listed configs log n li s sorted)
 
-  pub handshake_ends : ends_held (map (handshake_holder n) li.handshakes) ≡ flat_map (λ h. ((peer_at log h).link, side.In) ∷ []) (handshakes_of log n)
+  pub handshake_ends : ends_held (map (handshake_holder n) li.handshakes) ≡ flat_map (λ h. all_of (listening_end (came_over log h))) (handshakes_of log n)
   handshake_ends =
-      ends_named (handshake_holder n) (λ h. ((peer_at log h).link, side.In) ∷ []) li.handshakes (λ e has. ap (λ link. (link, side.In) ∷ []) (shake_end e has))
-      ∙ ap (flat_map (λ h. ((peer_at log h).link, side.In) ∷ [])) (handshakes_listed configs log n li s sorted)
+      ends_named (handshake_holder n) (λ h. all_of (listening_end (came_over log h))) li.handshakes (λ e has. ap (λ o. all_of (listening_end o)) (sym (shake_end e has)))
+      ∙ ap (flat_map (λ h. all_of (listening_end (came_over log h)))) (handshakes_listed configs log n li s sorted)

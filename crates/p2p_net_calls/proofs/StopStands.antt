@@ -7,14 +7,13 @@ use Rattle.p2p_log.specs.declared.entry.Entry.{Entry}
 use Rattle.p2p_log.specs.declared.event.Event.{Event}
 use Rattle.p2p_log.specs.declared.event.Act.TheVariants as act
 use Rattle.p2p_log.specs.declared.queue.Queue.TheVariants as queue
-use Rattle.p2p_log.specs.declared.queue.Side.TheVariants as side
 use Rattle.p2p_log.specs.declared.item.Envelope.{Envelope}
 use Rattle.p2p_log.specs.Lines.{live, line}
 use Rattle.p2p_log_rules.specs.declared.row.Row.{Row}
-use Rattle.p2p_log_rules.specs.Dropping.{LinkEnd, half_end, arrival_end, drops_of, dialing_end}
+use Rattle.p2p_log_rules.specs.Dropping.{LinkEnd, half_end, arrival_end, drops_of, dialing_end, listening_end}
 use Rattle.p2p_log_rules.specs.Effect.{effect}
 use Rattle.p2p_log_rules.specs.Facts.{is_stopped}
-use Rattle.p2p_log_rules.specs.Handshakes.{handshakes_of, peer_at}
+use Rattle.p2p_log_rules.specs.Handshakes.{handshakes_of, came_over}
 use Rattle.p2p_log_rules.specs.Connections.{half_at}
 use Rattle.p2p_log_rules.specs.Told.{told, connections_in, attempts_in, half_to_be}
 use Rattle.p2p_log_rules.proofs.Cutting.{is_cut-kept}
@@ -106,7 +105,7 @@ module _ (configs : List Config) (log : List Entry) (moment seed : ℕ) (by_star
       ap (λ (w : Dialing). ends_held (map (attempt_holder n) w.attempts)) (step.told_dialing configs log n x y l links r s t lasts bare d)
       ∙ attempt_ends configs log n x.dialing (s.each place.dialer) (step.attempts_sorted configs log n x y l links r s t lasts bare d)
 
-  handshakes_are : from_handshakes ≡ flat_map (λ h. ((peer_at log h).link, side.In) ∷ []) (handshakes_of log n)
+  handshakes_are : from_handshakes ≡ flat_map (λ h. all_of (listening_end (came_over log h))) (handshakes_of log n)
   handshakes_are =
       ap (λ hs. ends_held (map (handshake_holder n) hs)) (step.tried_handshakes configs log n x y l links r s t lasts bare d)
       ∙ handshake_ends configs log n x.listening listened (step.handshakes_sorted configs log n x y l links r s t lasts bare d)
@@ -125,7 +124,7 @@ module _ (configs : List Config) (log : List Entry) (moment seed : ℕ) (by_star
       (ap (λ es. es ++ (from_handshakes ++ from_connections)) attempts_are
       ∙ ap (λ es. flat_map (λ k. all_of (dialing_end log n k)) (attempts_in (told log) n) ++ es)
       (ap (λ es. es ++ from_connections) handshakes_are
-      ∙ ap (λ es. flat_map (λ h. ((peer_at log h).link, side.In) ∷ []) (handshakes_of log n) ++ es) connections_are)))
+      ∙ ap (λ es. flat_map (λ h. all_of (listening_end (came_over log h))) (handshakes_of log n) ++ es) connections_are)))
       ∙ sym (drops_stopped log e n (node.stop configs log moment seed by_start n x y l links r s t lasts bare d)))
 
   opens : OpensNone log e

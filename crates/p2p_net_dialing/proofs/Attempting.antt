@@ -34,9 +34,9 @@ use Rattle.p2p_log_rules.proofs.Dialing.{dials_by, dials_of-kept}
 use Rattle.p2p_log_rules.proofs.Told.{NoneTold}
 use Rattle.p2p_log_rules.specs.Effect.{only, row, effect, entry_of}
 use Rattle.p2p_log_rules.specs.Connections.{half_at}
-use Rattle.p2p_log_rules.specs.Dropping.{LinkEnd, other_side, dialing_end, arriving_end, half_end}
+use Rattle.p2p_log_rules.specs.Dropping.{LinkEnd, other_side, dialing_end, arriving_end, half_end, listening_end}
 use Rattle.p2p_log_rules.specs.Facts.{turns, taken}
-use Rattle.p2p_log_rules.specs.Handshakes.{peer_at}
+use Rattle.p2p_log_rules.specs.Handshakes.{came_over}
 use Rattle.p2p_log_rules.proofs.Touches.{reads, writes}
 use Rattle.p2p_log_laws.proofs.Reaching as reaching
 use Rattle.p2p_log_laws.proofs.Untouched.{line-untouched}
@@ -90,7 +90,7 @@ ends_of configs log n k (act.RecvStep conn m) goes_on h = unflown (half_end (hal
 ends_of configs log n k (act.Attempt e m) goes_on h =
     ap (λ b. same_queue (queue.Attempt m e) (queue.Attempt n k) || b) (unflown (dialing_end log m e) n k)
     ∙ (or_false (same_queue (queue.Attempt m e) (queue.Attempt n k)) ∙ h)
-ends_of configs log n k (act.Handshake e m) goes_on h = unflown (Some ((peer_at log e).link, side.In)) n k
+ends_of configs log n k (act.Handshake e m) goes_on h = unflown (listening_end (came_over log e)) n k
 ends_of configs log n k (act.Listener m) goes_on h = unflown (arriving_end log m) n k
 ends_of configs log n k (act.Stop by_start m) goes_on h = cc
 ends_of configs log n k _ goes_on h = h

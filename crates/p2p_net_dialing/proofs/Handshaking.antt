@@ -36,11 +36,11 @@ use Rattle.p2p_log.proofs.QueueNames.{queue_from_same}
 use Rattle.p2p_log_rules.proofs.Connections.{ends_untold}
 use Rattle.p2p_log_rules.specs.declared.row.Row.{Row}
 use Rattle.p2p_log_rules.specs.Facts.{taken}
-use Rattle.p2p_log_rules.specs.Dropping.{LinkEnd}
+use Rattle.p2p_log_rules.specs.Dropping.{LinkEnd, listening_end}
 use Rattle.p2p_log_rules.specs.Puts.{is_spawn, broke_off}
 use Rattle.p2p_log_rules.specs.Effect.{only, entry_of}
 use Rattle.p2p_log_rules.specs.Attempting.{left_ends, handed_on_row}
-use Rattle.p2p_log_rules.specs.Handshakes.{ends_handshake, is_handshaking, is_finished, Peer, peer_at, source_at}
+use Rattle.p2p_log_rules.specs.Handshakes.{Handshake, handshake_at, came_over, ends_handshake, is_handshaking, is_finished, source_at}
 use Rattle.p2p_log_rules.specs.Handshaking as log_rule
 use Rattle.p2p_log_rules.specs.Handshaking.{handshake_deadline, ended_row, exchanged_row}
 use Rattle.p2p_log_rules.specs.Rows.{is_spawner_full, taken_row}
@@ -50,7 +50,7 @@ use Rattle.p2p_net_queues.specs.Tables as table
 use Rattle.p2p_net_queues.proofs.Going.{first_left}
 use Rattle.p2p_net_gates.specs.Handshaking.{ready_over, served_by, ends_left, TurnsHandshake, LeavesHandshakes, StepsHandshake}
 use Rattle.p2p_net_gates.specs.Handshaking as listening
-use Rattle.p2p_net_gates.specs.ListenerStands.{facts_of, IsRunning, HandshakeIs, ListenerStands}
+use Rattle.p2p_net_gates.specs.ListenerStands.{begun_by, facts_of, IsRunning, HandshakeIs, ListenerStands}
 use Rattle.p2p_net_gates.specs.declared.handshake.HandshakeStep.TheVariants as handshake
 use Rattle.p2p_net_gates.proofs.ListenerChanges.{listener_same, listener_untouched, handshakes_stepped, listener_after_handshake}
 use Rattle.p2p_net_gates.proofs.Handshakes.{facts_after}
@@ -65,7 +65,7 @@ use Rattle.p2p_net_queues.specs.Matching.{Match}
 use Rattle.p2p_net_tracker.specs.Stands.{IsToldHandshake, HandshakeStands, AreDistinct, TrackerStands}
 use Rattle.p2p_net_tracker.specs.declared.tracker.Tracker.{Tracker}
 use Rattle.p2p_net_tracker.proofs.Distinct.{distinct-with_line, distinct-ended}
-use Rattle.p2p_net_tracker.proofs.Facts.{source_at-longer}
+use Rattle.p2p_log_rules.proofs.HandshakeBegun.{source_at-longer}
 use Rattle.p2p_net_tracker.proofs.GivenBack.{given_now, handshake_gives}
 use Rattle.p2p_net_tracker.proofs.HandshakeSteps.{after_step, left_after, tracker_after_handshake, line_of-dropped, line_of-ended, line_of-dropped_ended}
 use Rattle.p2p_net_tracker.proofs.Moved.{asked_desk, IsAsked}
@@ -101,7 +101,7 @@ module _ (configs : List Config) (log : List Entry) (moment seed name n : ℕ) (
   abbrev mid : Node
   mid = steps.mid
 
-  abbrev deadline : ℕ
+  abbrev deadline : Option ℕ
   deadline = handshake_deadline configs log name n
 
   abbrev waits : List Envelope
@@ -113,8 +113,8 @@ module _ (configs : List Config) (log : List Entry) (moment seed name n : ℕ) (
   abbrev late : Bool
   late = log_rule.is_due deadline moment (is_finished log n name)
 
-  abbrev peer : Peer
-  peer = peer_at log name
+  abbrev begun : Option Handshake
+  begun = handshake_at log name
 
   tracked : TrackerStands configs log n x.tracker
   tracked = s.each place.tracker
@@ -130,10 +130,10 @@ module _ (configs : List Config) (log : List Entry) (moment seed name n : ℕ) (
   e due = entry_of ev (dropped log lost due)
 
   row_by : (b : Bool) (xs : List Envelope) → is_handshaking log n name ≡ b → waits ≡ xs
-      → log_rule.handshake_row configs log name n moment ≡ cond b (log_rule.handshake_turn n full late name peer xs) (only reply.Gone)
+      → log_rule.handshake_row configs log name n moment ≡ cond b (log_rule.handshake_turn n full late name begun xs) (only reply.Gone)
   row_by b xs runs is =
-      ap (λ c. cond c (log_rule.handshake_turn n full late name peer waits) (only reply.Gone)) runs
-      ∙ ap (λ l. cond b (log_rule.handshake_turn n full late name peer l) (only reply.Gone)) is
+      ap (λ c. cond c (log_rule.handshake_turn n full late name begun waits) (only reply.Gone)) runs
+      ∙ ap (λ l. cond b (log_rule.handshake_turn n full late name begun l) (only reply.Gone)) is
 
   spawning_is : mid.spawning ≡ x.spawning
   spawning_is = ap (λ (z : Node). z.spawning) steps.rest
@@ -172,7 +172,7 @@ module _ (configs : List Config) (log : List Entry) (moment seed name n : ℕ) (
     unbroken items = ap (λ (z : Row). broke_off z.reply items z.puts) (hands.0 ∙ r_is) ∙ ap (λ b. b && not (list_any is_spawn [])) (lasts items)
 
     none_lost : lost ≡ None
-    none_lost = ap (λ b. cond b (Some (peer.link, side.In)) None) (unbroken (firsts waits))
+    none_lost = ap (λ b. cond b (listening_end (came_over log name)) None) (unbroken (firsts waits))
 
     still : mid.tracker ≡ record x.tracker { mailbox = mid.tracker.mailbox } → mid.tracker.mailbox ≡ m
         → (ListenerStands configs (log ++ e (only rep) ∷ []) n x.listening → ListenerStands configs (log ++ e (only rep) ∷ []) n mid.listening)
@@ -218,6 +218,17 @@ module _ (configs : List Config) (log : List Entry) (moment seed name n : ℕ) (
     abbrev turn : Turn (Handshaking Key) Key
     turn = handshake_turn h m moment
 
+    -- what began it
+    abbrev peer : Handshake
+    peer = begun_by h.arrival is.at
+
+    over_its : came_over log name ≡ Some h.arrival.link
+    over_its = ap (option_map (λ (s : Handshake). s.link)) is.began
+
+    -- its row, by what waits for it
+    row_of : (xs : List Envelope) → waits ≡ xs → log_rule.handshake_row configs log name n moment ≡ log_rule.handshake_turn n full late name (Some peer) xs
+    row_of xs first = row_by true xs runs first ∙ ap (λ o. log_rule.handshake_turn n full late name o xs) is.began
+
     turn_is : turn ≡ line_turn (first_of (line_of m.handshakes name)) h m moment
     turn_is =
         ap (λ b. cond b (idle_turn h m) (line_turn (first_of (line_of m.handshakes h.name)) h m moment)) is.runs
@@ -247,7 +258,7 @@ module _ (configs : List Config) (log : List Entry) (moment seed name n : ℕ) (
 
     -- a turn in which it took its oldest item, or ended, and handed something on
     module _ (T : Turn (Handshaking Key) Key) (took ended : Bool) (ask : Option Item) (ready : Option (ℕ × Metadata Key)) (o : Handed) (way : Mailbox Key) (items : List Item) (due : Row) (so : turn ≡ T)
-        (served : served_by T.stepped T.actor.arrival.link T.actor.has_ended ≡ handshake.Served took ended ask ready) (over : T.actor.has_ended ≡ ended) (link : T.actor.arrival.link ≡ peer.link)
+        (served : served_by T.stepped T.actor.arrival.link T.actor.has_ended ≡ handshake.Served took ended ask ready) (over : T.actor.has_ended ≡ ended) (link : T.actor.arrival.link ≡ h.arrival.link)
         (handed : mid.tracker.mailbox ≡ T.way → HandsOn ready (length log) n ask mid y steps.taken r → HandedOn (length log) n o way mid y steps.taken r)
         (row_is : log_rule.handshake_row configs log name n moment ≡ due) (told_row : record (handshake_step_row took ended waits) { puts = handed_puts n o } ≡ due) (moved : cond ended true took ≡ true)
         (took_is : taken log (e due) ≡ items) (front : firsts waits ≡ items) (log_ends : ends_handshake due.reply items ≡ ended) (puts : due.puts ≡ handed_puts n o)
@@ -278,8 +289,9 @@ module _ (configs : List Config) (log : List Entry) (moment seed name n : ℕ) (
       keeps_same : r ≡ due → table.at y.listening.handshakes name ≡ table.at mid.listening.handshakes name → keeps_by (table.at y.listening.handshakes name) (table.at x.listening.handshakes name) ≡ lost
       keeps_same due_is now =
           ap (λ b. end_by (b || list_any is_spawn r.puts) (link_over (table.at x.listening.handshakes name)) side.In) (ap is_some now ∙ kept_now)
-          ∙ (ap (λ o. end_by (not ended || list_any is_spawn r.puts) o side.In) (ap link_over there ∙ ap (λ k. Some k) is.link)
-          ∙ (broken_end ended (list_any is_spawn r.puts) peer.link ∙ ap (λ b. cond b (Some (peer.link, side.In)) None) (sym (broken_is due_is))))
+          ∙ (ap (λ o. end_by (not ended || list_any is_spawn r.puts) o side.In) (ap link_over there)
+          ∙ (broken_end ended (list_any is_spawn r.puts) h.arrival.link
+          ∙ (ap (λ b. cond b (Some (h.arrival.link, side.In)) None) (sym (broken_is due_is)) ∙ ap (λ o. cond (broke_off r.reply (firsts waits) r.puts) (listening_end o) None) (sym over_its))))
 
       served_performs : Done
       served_performs =
@@ -324,6 +336,8 @@ module _ (configs : List Config) (log : List Entry) (moment seed name n : ℕ) (
             rest = d.rest ∙ ap (λ b. record x.listening { actor = listening.freed_if b x.listening.actor; handshakes = mid.listening.handshakes; ends = mid.listening.ends }) over;
             others = d.others;
             stands = stands;
+            link = h.arrival.link;
+            came = over_its;
             ends = λ k. d.ends k ∙ (ap (λ b. ends_left b T.actor.arrival.link (table.at x.listening.ends) k) over ∙ ap (λ w. ends_left ended w (table.at x.listening.ends) k) link);
           })))
           (subst (SpawnerStands configs (log ++ e due ∷ []) n) (sym (on.spawner ∙ ap (spawner_after (length log) o) spawning_is))
@@ -337,7 +351,7 @@ module _ (configs : List Config) (log : List Entry) (moment seed name n : ℕ) (
     expired so none row_is =
         let due : Row = ended_row [] [] in
         let way : Mailbox Key = without_handshake m h.name in
-        served_performs (ends input.Deadline outcome.Ended h m) false true None None nothing way [] due so refl refl is.link
+        served_performs (ends input.Deadline outcome.Ended h m) false true None None nothing way [] due so refl refl refl
         (λ same hands. nothing_asked (length log) n way mid y steps.taken r same hands)
         row_is (ap (handshake_step_row false true) none) refl (none_taken log (e due) refl) (ap firsts none) refl refl refl
         (λ k. ap (λ j. line_of (ended m.handshakes j) k) is.name ∙ line_of-ended m.handshakes name k tracked.distinct) (distinct-ended m.handshakes h.name tracked.distinct)
@@ -355,7 +369,7 @@ module _ (configs : List Config) (log : List Entry) (moment seed name n : ℕ) (
       front_is i said = ap firsts first ∙ ap (λ j. j ∷ []) said
 
       due_is : (i : Item) → z.item ≡ i → log_rule.handshake_row configs log name n moment ≡ log_rule.handshake_took_row n full name peer (name_of z) i zs
-      due_is i said = row_by true (z ∷ zs) runs first ∙ ap (λ j. log_rule.handshake_took_row n full name peer (name_of z) j zs) said
+      due_is i said = row_of (z ∷ zs) first ∙ ap (λ j. log_rule.handshake_took_row n full name peer (name_of z) j zs) said
 
       -- what is left where it goes on
       rest_left : (p : Queue) → filter (stands_in p) (filter (stays (name_of z ∷ [])) (live log)) ≡ cond (same_queue q p) (drop 1 (line log p)) (line log p)
@@ -384,7 +398,7 @@ module _ (configs : List Config) (log : List Entry) (moment seed name n : ℕ) (
           → HandedOn (length log) n o (record ended_left { desk = asked_desk m.desk (message_in o) }) mid y steps.taken r)
           → IsAsked x.tracker.tickets (log ++ e (over o) ∷ []) (item_in o) (message_in o) → IsOnItsSide log (e (over o)) n o → Done
       ends_here i done o said so ending row_is handed says on =
-          served_performs (ends input.Item done h way_left) true true None (ready_over h.arrival.link done) o (record ended_left { desk = asked_desk m.desk (message_in o) }) (i ∷ []) (over o) so refl refl is.link
+          served_performs (ends input.Item done h way_left) true true None (ready_over h.arrival.link done) o (record ended_left { desk = asked_desk m.desk (message_in o) }) (i ∷ []) (over o) so refl refl refl
           handed (due_is i said ∙ row_is) (ap (λ xs. record (handshake_step_row true true xs) { puts = handed_puts n o }) first) refl (taken_is i (over o) said refl) (front_is i said) ending refl refl
           (λ k. ap (λ j. line_of (ended (with_line m.handshakes j (drop 1)) j) k) is.name ∙ line_of-dropped_ended m.handshakes name k tracked.distinct)
           (distinct-ended way_left.handshakes h.name distinct_left) says on
@@ -410,7 +424,7 @@ module _ (configs : List Config) (log : List Entry) (moment seed name n : ℕ) (
             (handshake_gives log (e (over back)) n name refl (ap (ends_handshake reply.Ok) (taken_is (item.Listen (Some key)) (over back) said refl)))
 
         over_link : IsReservedOver log n h.arrival.link reserved
-        over_link = subst (λ w. IsReservedOver log n w reserved) (sym is.link) (heard key z zs runs first said)
+        over_link = heard peer key z zs runs is.began first said
 
         by_room : (b : Bool) → full ≡ b → turn ≡ ends input.Item (outcome.Ready reserved) h way_left → Done
         by_room true is_full so =
@@ -419,7 +433,7 @@ module _ (configs : List Config) (log : List Entry) (moment seed name n : ℕ) (
             (λ same hands. connection_refused (length log) n ended_left mid y steps.taken r same h.arrival.link reserved hands (refuses_is ∙ is_full)) (reserved, refl, refl) given
         by_room false room so =
             ends_here (item.Listen (Some key)) (outcome.Ready reserved) (connection h.arrival.link reserved) said so refl
-            (ap (λ b. handed_on_row n b key peer.link (name_of z) zs) room ∙ ap (λ w. handed_on_row n false key w (name_of z) zs) (sym is.link))
+            (ap (λ b. handed_on_row n b key peer.link (name_of z) zs) room)
             (λ same hands. connection_asked (length log) n ended_left mid y steps.taken r same h.arrival.link reserved hands (refuses_is ∙ room)) tt over_link
 
       -- its peer may connect
@@ -427,11 +441,11 @@ module _ (configs : List Config) (log : List Entry) (moment seed name n : ℕ) (
       accepted said so =
           let due : Row = taken_row (name_of z) in
           let items : List Item = item.Acceptable true ∷ [] in
-          served_performs (goes_on input.Item (record h { is_accepted = true }) way_left) true false None None nothing way_left items due so (ap (λ b. handshake.Served true b None None) is.runs) is.runs is.link
+          served_performs (goes_on input.Item (record h { is_accepted = true }) way_left) true false None None nothing way_left items due so (ap (λ b. handshake.Served true b None None) is.runs) is.runs refl
           (λ same hands. nothing_asked (length log) n way_left mid y steps.taken r same hands)
           (due_is (item.Acceptable true) said) (ap (handshake_step_row true false) first) refl (taken_is (item.Acceptable true) due said refl) (front_is (item.Acceptable true) said) refl refl refl one_dropped distinct_left tt tt rest_left
           (subst (λ b. HandshakeIs (facts_after items (facts_of configs log n name)) name true (cond b None (Some (record h { is_accepted = true })))) (sym is.runs)
-          (refl, record { name = is.name; deadline = is.deadline; accepted = refl; finished = is.finished; key = is.key; link = is.link; source = is.source; runs = is.runs; works = is.works }))
+          (refl, record { name = is.name; deadline = is.deadline; accepted = refl; finished = is.finished; at = is.at; began = is.began; runs = is.runs; works = is.works }))
 
       -- its keys were exchanged, and it asks for its peer
       exchanged : z.item ≡ item.Finished true → turn ≡ asks input.Item (put.Listen h.arrival.key h.arrival.from.ip h.name) (record h { is_finished = true }) way_left → Done
@@ -442,13 +456,13 @@ module _ (configs : List Config) (log : List Entry) (moment seed name n : ℕ) (
           let told = message.Listen h.arrival.key h.arrival.from.ip h.name in
           let way : Mailbox Key = with_message_in way_left told in
           served_performs (asks input.Item (put.Listen h.arrival.key h.arrival.from.ip h.name) (record h { is_finished = true }) way_left) true false (Some asking) None (question asking told) way items due so
-          (ap (λ b. handshake.Served true b (Some asking) None) is.runs) is.runs is.link
+          (ap (λ b. handshake.Served true b (Some asking) None) is.runs) is.runs refl
           (λ same hands. question_asked (length log) n way mid y steps.taken r same asking told hands)
-          (due_is (item.Finished true) said ∙ (ap (λ j. exchanged_row n j peer.key (name_of z)) (sym is.name) ∙ ap (λ w. exchanged_row n h.name w (name_of z)) (sym is.key)))
+          (due_is (item.Finished true) said ∙ ap (λ j. exchanged_row n j peer.key (name_of z)) (sym is.name))
           (ap (λ xs. record (handshake_step_row true false xs) { puts = (queue.Tracker n, asking) ∷ [] }) first) refl (taken_is (item.Finished true) due said refl) (front_is (item.Finished true) said) refl refl refl one_dropped distinct_left
-          (h.arrival.from.ip, ap (source_at (log ++ e due ∷ [])) is.name ∙ source_at-longer log (e due ∷ []) name h.arrival.from.ip is.source, refl) tt rest_left
+          (h.arrival.from.ip, ap (source_at (log ++ e due ∷ [])) is.name ∙ source_at-longer log (e due ∷ []) name h.arrival.from.ip (ap (option_map (λ (s : Handshake). s.source)) is.began), refl) tt rest_left
           (subst (λ b. HandshakeIs (facts_after items (facts_of configs log n name)) name true (cond b None (Some (record h { is_finished = true })))) (sym is.runs)
-          (refl, record { name = is.name; deadline = is.deadline; accepted = is.accepted; finished = refl; key = is.key; link = is.link; source = is.source; runs = is.runs; works = is.works }))
+          (refl, record { name = is.name; deadline = is.deadline; accepted = is.accepted; finished = refl; at = is.at; began = is.began; runs = is.runs; works = is.works }))
 
       by_item : (i : Item) (a : HandshakeItem Key) → z.item ≡ i → turn ≡ item_turn a h way_left → IsToldHandshake i a → Done
       by_item (item.Acceptable true) a said so told = accepted said (so ∙ ap (λ b. item_turn b h way_left) told)
@@ -461,15 +475,15 @@ module _ (configs : List Config) (log : List Entry) (moment seed name n : ℕ) (
 
     -- whether its deadline has come
     late_is : is_due h moment ≡ late
-    late_is = ap (λ b. not b && nat_le h.deadline moment) is.finished ∙ ap (λ d. not (is_finished log n name) && nat_le d moment) is.deadline
+    late_is = ap (λ b. not b && nat_le h.deadline moment) is.finished ∙ ap (λ o. log_rule.is_due o moment (is_finished log n name)) (sym is.deadline)
 
     by_due : (b : Bool) → late ≡ b → waits ≡ [] → line_of m.handshakes name ≡ Some [] → Done
     by_due true due none lines =
         expired (turn_is ∙ (ap (λ o. line_turn (first_of o) h m moment) lines ∙ ap (λ b. cond b (ends input.Deadline outcome.Ended h m) (idle_turn h m)) (late_is ∙ due))) none
-        (row_by true [] runs none ∙ ap (λ b. cond b (ended_row [] []) (only reply.Idle)) due)
+        (row_of [] none ∙ ap (λ b. cond b (ended_row [] []) (only reply.Idle)) due)
     by_due false early none lines =
         idle (turn_is ∙ (ap (λ o. line_turn (first_of o) h m moment) lines ∙ ap (λ b. cond b (ends input.Deadline outcome.Ended h m) (idle_turn h m)) (late_is ∙ early)))
-        (row_by true [] runs none ∙ ap (λ b. cond b (ended_row [] []) (only reply.Idle)) early)
+        (row_of [] none ∙ ap (λ b. cond b (ended_row [] []) (only reply.Idle)) early)
 
     by_line : (xs : List Envelope) (items : List (HandshakeItem Key)) → waits ≡ xs → line_of m.handshakes name ≡ Some items → Match (λ (z : Envelope) i. IsToldHandshake z.item i) xs items → Done
     by_line [] [] none lines h = by_due late refl none lines

@@ -41,22 +41,22 @@ use Rattle.p2p_log_rules.specs.Facts.{is_up, events_of, latest_moment, taken}
 use Rattle.p2p_log_rules.proofs.Listening.{took_known, IsJudged, known_of-late}
 use Rattle.p2p_log_rules.specs.Dropping.{arrival_end, oldest_end, arriving_end}
 use Rattle.p2p_log_rules.specs.Effect.{only, entry_of}
-use Rattle.p2p_log_rules.specs.Handshakes.{handshakes_of, source_of, peer_of}
+use Rattle.p2p_log_rules.specs.Handshakes.{Handshake, handshakes_of, handshake_at}
 use Rattle.p2p_log_rules.specs.Links.{listening_ends_of}
 use Rattle.p2p_log_rules.specs.Listening as log_rule
 use Rattle.p2p_log_rules.specs.Listening.{gate_rules_at, most_handshakes_at, known_of, gates_puts, arrival_told_row, listener_row}
 use Rattle.p2p_log_rules.specs.Puts.{turns_away}
-use Rattle.p2p_log_rules.proofs.TakenAt.{taken_at-last}
+use Rattle.p2p_log_rules.proofs.HandshakeBegun.{handshake_at-begun}
 use Rattle.p2p_log_rules.specs.declared.row.ListeningEnd.TheVariants as listening_end
 use Rattle.p2p_log_rules.specs.Told.{admitted_as}
-use Rattle.p2p_log_rules.proofs.Handshakes.{handshakes_of-listened}
+use Rattle.p2p_log_rules.proofs.Handshakes.{begun_with, handshakes_of-listened}
 use Rattle.p2p_log_rules.proofs.Links.{listening_ends_of-listened, listening_ends_of-taken}
 use Rattle.p2p_log_rules.proofs.Standing.{started}
 use Rattle.p2p_net_queues.specs.Board.{held}
 use Rattle.p2p_net_queues.specs.Tables as table
 use Rattle.p2p_net_queues.proofs.Going.{put_in, line-append, first_left}
 use Rattle.p2p_net_gates.specs.Listening as listening
-use Rattle.p2p_net_gates.specs.ListenerStands.{arrival_item, IsRunning, TellsNothing, ListenerStands}
+use Rattle.p2p_net_gates.specs.ListenerStands.{arrival_item, IsRunning, TellsNothing, ListenerStands, begun_by}
 use Rattle.p2p_net_gates.specs.declared.listening.Took.{Took}
 use Rattle.p2p_net_gates.specs.declared.listening.Took.TheVariants as takes
 use Rattle.p2p_net_gates.proofs.ListenerChanges.{listener_moved}
@@ -139,11 +139,11 @@ module _ (configs : List Config) (log : List Entry) (moment seed n : ℕ) (x y :
   tells_none due = listener_tells log (e due) n refl
 
   -- it begins the handshake that it admits
-  begins : (due : Row) → handshakes_of (log ++ e due ∷ []) n ≡ hs ++ started (admitted_as k (e due).reply)
+  begins : (due : Row) → handshakes_of (log ++ e due ∷ []) n ≡ hs ++ started (begun_with (admitted_as k (e due).reply) (taken log (e due)))
   begins due = handshakes_of-listened log (e due) n refl
 
   begins_none : (due : Row) → admitted_as k (e due).reply ≡ None → handshakes_of (log ++ e due ∷ []) n ≡ hs
-  begins_none due none = begins due ∙ (ap (λ o. hs ++ started o) none ∙ append-nil hs)
+  begins_none due none = begins due ∙ (ap (λ o. hs ++ started (begun_with o (taken log (e due)))) none ∙ append-nil hs)
 
   places_kept : (due : Row) → admitted_as k (e due).reply ≡ None → actor.places ≡ record { held = length (handshakes_of (log ++ e due ∷ []) n); max = most_handshakes_at configs n }
   places_kept due none = listens.places ∙ ap (λ (names : List ℕ). record { held = length names; max = most_handshakes_at configs n }) (sym (begins_none due none))
@@ -321,10 +321,14 @@ module _ (configs : List Config) (log : List Entry) (moment seed n : ℕ) (x y :
       told_lines : (told : GatesReply) (p : Queue) → is_told n p ≡ true → line (log ++ e (due told) ∷ []) p ≡ line log p
       told_lines told p own = line_away told p (told_unlinked n p own) (told_apart n n p own) ∙ ap (λ b. cond b zs (line log p)) (not_arrivals p own)
 
+      -- where it is admitted a handshake begins with it
+      begins_one : handshakes_of (log ++ e (due gates.Admitted) ∷ []) n ≡ hs ++ k ∷ []
+      begins_one = begins (due gates.Admitted) ∙ ap (λ items. hs ++ started (begun_with (Some k) items)) (took_is gates.Admitted)
+
       -- the places of handshakes
       places_told : (told : GatesReply) → places_after told actor.places ≡ record { held = length (handshakes_of (log ++ e (due told) ∷ []) n); max = most_handshakes_at configs n }
       places_told gates.Admitted =
-          ap (λ (p : Places). record { held = p.held + 1; max = p.max }) listens.places ∙ ap (λ c. record { held = c; max = most_handshakes_at configs n }) (sym (ap length (begins (due gates.Admitted)) ∙ length-append hs (k ∷ [])))
+          ap (λ (p : Places). record { held = p.held + 1; max = p.max }) listens.places ∙ ap (λ c. record { held = c; max = most_handshakes_at configs n }) (sym (ap length begins_one ∙ length-append hs (k ∷ [])))
       places_told gates.Private = places_kept (due gates.Private) refl
       places_told gates.Unregistered = places_kept (due gates.Unregistered) refl
       places_told (gates.Limited i j) = places_kept (due (gates.Limited i j)) refl
@@ -345,25 +349,25 @@ module _ (configs : List Config) (log : List Entry) (moment seed n : ℕ) (x y :
       took_told (gates.Limited i j) name there = ap (listening.took_by (T_told (gates.Limited i j)).stepped) there
       took_told gates.TooMany name there = ap (listening.took_by (T_told gates.TooMany).stepped) there
 
-      -- the one that begins, by what the log tells of it
-      running : IsRunning (facts_begun configs log (e (due gates.Admitted)) n) k (new_handshake k a actor.handshake_timeout moment)
-      running =
-          let took : taken log (e (due gates.Admitted)) ≡ item.Arrival a.from a.key a.link ∷ [] = took_is gates.Admitted in
-          record {
-            name = refl;
-            deadline = ap (λ t. moment + t) listens.timeout;
-            accepted = refl;
-            finished = refl;
-            key = sym (ap (λ (xs : List Item). (peer_of xs).key) took);
-            link = sym (ap (λ (xs : List Item). (peer_of xs).link) took);
-            source = ap source_of took;
-            runs = refl;
-            works = refl;
-          }
+      began : handshake_at (log ++ e (due gates.Admitted) ∷ []) k ≡ Some (begun_by a moment)
+      began = handshake_at-begun log (e (due gates.Admitted)) n a.from a.key a.link [] refl refl (took_is gates.Admitted)
+
+      -- by what the log tells of it
+      running : IsRunning (facts_begun configs n (begun_by a moment)) k (new_handshake k a actor.handshake_timeout moment)
+      running = record {
+        name = refl;
+        deadline = ap (λ t. Some (moment + t)) (sym listens.timeout);
+        accepted = refl;
+        finished = refl;
+        at = moment;
+        began = refl;
+        runs = refl;
+        works = refl;
+      }
 
       kept_told : (told : GatesReply) → AreKept configs log (e (due told)) n (log ++ e (due told) ∷ []) (listening.handshakes_after (T_told told).stepped k x.listening.handshakes)
       kept_told gates.Admitted =
-          handshakes_begun configs log (e (due gates.Admitted)) n x.listening.handshakes (new_handshake k a actor.handshake_timeout moment) (begins (due gates.Admitted))
+          handshakes_begun configs log (e (due gates.Admitted)) n x.listening.handshakes (new_handshake k a actor.handshake_timeout moment) (begun_by a moment) begins_one began
           (tells_none (due gates.Admitted)) (listens.untold k (omega arith)) running listens.handshakes
       kept_told gates.Private = handshakes_kept configs log (e (due gates.Private)) n x.listening.handshakes (begins_none (due gates.Private) refl) (tells_none (due gates.Private)) listens.handshakes
       kept_told gates.Unregistered = handshakes_kept configs log (e (due gates.Unregistered)) n x.listening.handshakes (begins_none (due gates.Unregistered) refl) (tells_none (due gates.Unregistered)) listens.handshakes
@@ -459,8 +463,8 @@ module _ (configs : List Config) (log : List Entry) (moment seed n : ℕ) (x y :
             no_end = λ conn. ends_untold log (e d) n conn (e d).event.act refl refl;
             no_question = refl;
             no_answer = λ q. refl;
-            admits = begins (due gates.Admitted);
-            source_is = ap source_of (taken_at-last log (e d) ∙ took_is gates.Admitted);
+            admits = begins_one;
+            source_is = ap (option_map (λ (h : Handshake). h.source)) began;
             rest = it.1 ∙ ap (λ (u : Mailbox Key). record x.tracker { mailbox = u; names = x.tracker.names ++ (k, 0) ∷ [] }) (w ∙ sym (mailbox_now w));
             items = ap (λ (u : Mailbox Key). u.desk.messages.items) w ∙ kept_open m.desk.messages.closed (has_room m.desk.messages) m.desk.messages.items (message.Acceptable a.key a.from.ip k) tracked.is_open;
             closed = ap (λ (u : Mailbox Key). u.desk.messages.closed) w;

@@ -14,11 +14,11 @@ use Rattle.p2p_log.specs.declared.event.Act.TheVariants as act
 use Rattle.p2p_log.specs.QueueCode.{same_queue}
 use Rattle.p2p_log.specs.Lines.{line}
 use Rattle.p2p_log_rules.specs.declared.row.Row.{Row}
-use Rattle.p2p_log_rules.specs.Dropping.{LinkEnd, handshake_step_row}
+use Rattle.p2p_log_rules.specs.Dropping.{LinkEnd, handshake_step_row, listening_end}
 use Rattle.p2p_log_rules.specs.Puts.{is_spawn, broke_off}
 use Rattle.p2p_log_rules.specs.Effect.{row, entry_of}
 use Rattle.p2p_log_rules.specs.Facts.{taken}
-use Rattle.p2p_log_rules.specs.Handshakes.{peer_at}
+use Rattle.p2p_log_rules.specs.Handshakes.{came_over}
 use Rattle.p2p_log_rules.specs.Handshaking.{handshake_row}
 use Rattle.p2p_net_queues.specs.Tables as table
 use Rattle.p2p_net_tracker.specs.Handshaking.{left_of}
@@ -61,7 +61,7 @@ firsts waits = map (λ (x : Envelope). x.item) (take 1 waits)
 
 -- the end that is dropped by such a row
 abbrev pub lost_by : List Entry → ℕ → ℕ → Row → Option LinkEnd
-lost_by log n name r = cond (broke_off r.reply (firsts (line log (queue.Handshake n name))) r.puts) (Some ((peer_at log name).link, side.In)) None
+lost_by log n name r = cond (broke_off r.reply (firsts (line log (queue.Handshake n name))) r.puts) (listening_end (came_over log name)) None
 
 -- what a step comes to, but for the end of the link: the row is that of the handshake, and the node stands for the log with its entry, by
 -- which that end is dropped too; what was taken is what might be; and the code drops the same end

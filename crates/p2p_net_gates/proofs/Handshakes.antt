@@ -1,9 +1,10 @@
 -- The handshakes that a node's listener keeps, after one more entry.
 use Rattle.std.proofs.Common.{◌≡◌, ℕ, suc, ◌+◌, ◌≤◌, Bool, true, false, cond, List, [], ◌∷◌, ◌++◌, length, length-append, refl, ap, sym, subst, ◌∙◌, arith, eqb-true, Option, Some, None}
-use Rattle.std.specs.Prelude.{◌==◌, ◌&&◌, ◌||◌, not, nat_lt, slice_get}
+use Rattle.std.specs.Prelude.{◌==◌, ◌&&◌, ◌||◌, not}
 use Rattle.std.specs.BTreeMap.{insert_entry}
 use Rattle.std.specs.List.{list_any}
 use Rattle.std.specs.Ordering.{nat_cmp}
+use Rattle.std.specs.Option.{option_map}
 use Rattle.std.proofs.lemmas.Bool.Decides.{nat_tests}
 use Rattle.std.proofs.lemmas.List.Folds.{list_any-append}
 use Rattle.p2p_log_rules.proofs.Bools.{or_false, or_true}
@@ -13,14 +14,13 @@ use Rattle.p2p_log.specs.declared.config.Config.{Config}
 use Rattle.p2p_log.specs.declared.item.Item.{Item}
 use Rattle.p2p_log.specs.declared.entry.Entry.{Entry}
 use Rattle.p2p_log.specs.declared.event.Act.TheVariants as act
-use Rattle.p2p_log.proofs.Places.{slice_get-append}
 use Rattle.p2p_log_rules.specs.Attempting.{dial_rules_at}
-use Rattle.p2p_log_rules.specs.Facts.{moment_of, taken, taken_at}
-use Rattle.p2p_log_rules.specs.Handshakes.{handshakes_of, is_handshaking, takes_acceptance, takes_exchange, has_taken, is_accepted, is_finished}
+use Rattle.p2p_log_rules.specs.Facts.{taken}
+use Rattle.p2p_log_rules.specs.Handshakes.{Handshake, handshake_at, handshakes_of, is_handshaking, takes_acceptance, takes_exchange, has_taken, is_accepted, is_finished}
 use Rattle.p2p_log_rules.specs.Handshaking.{handshake_deadline}
+use Rattle.p2p_log_rules.proofs.HandshakeBegun.{handshake_at-kept}
 use Rattle.p2p_log_rules.proofs.Handshakes.{without_name, among-without, handshaking_early}
 use Rattle.p2p_log_rules.proofs.HandshakeTook.{IsOther, has_taken-step, has_taken-other, has_taken-unsuch}
-use Rattle.p2p_log_rules.proofs.TakenAt.{taken_at-longer, taken_at-last}
 use Rattle.p2p_net_queues.specs.Tables as table
 use Rattle.p2p_net_queues.specs.Tables.{AreBut}
 use Rattle.p2p_net_queues.proofs.Tables.{at-inserted}
@@ -28,28 +28,9 @@ use Rattle.p2p_net_gates.specs.ListenerStands.{HandshakeFacts, facts_of, IsRunni
 
 -- ---- its deadline
 
--- the deadline of a handshake that has begun stays
-pub deadline-longer : (configs : List Config) (log : List Entry) (e : Entry) (k n : ℕ) → suc k ≤ length log → handshake_deadline configs (log ++ e ∷ []) k n ≡ handshake_deadline configs log k n
-deadline-longer configs log e k n early =
-    ap (λ (o : Option Entry). moment_of o + (dial_rules_at configs n).handshake_timeout) (slice_get-append log e k ∙ ap (λ b. cond b (slice_get log k) (cond (k == length log) (Some e) None)) (is_early k (length log) early))
-  where
-    is_early : (a b : ℕ) → suc a ≤ b → nat_lt a b ≡ true
-    is_early a b h = grind (arith, nat_tests)
-
--- and that of one that begins is by its own entry
-deadline-last : (configs : List Config) (log : List Entry) (e : Entry) (n : ℕ) → handshake_deadline configs (log ++ e ∷ []) (length log) n ≡ e.event.at + (dial_rules_at configs n).handshake_timeout
-deadline-last configs log e n = ap (λ (o : Option Entry). moment_of o + (dial_rules_at configs n).handshake_timeout) (slice_get-append log e (length log) ∙ by (nat_lt (length log) (length log)) (length log == length log) (none (length log)) (here (length log)))
-  where
-    none : (a : ℕ) → nat_lt a a ≡ false
-    none a = grind (arith, nat_tests)
-
-    here : (a : ℕ) → (a == a) ≡ true
-    here a = grind (arith, nat_tests)
-
-    by : (b c : Bool) → b ≡ false → c ≡ true → cond b (slice_get log (length log)) (cond c (Some e) None) ≡ Some e
-    by true c none here = cc
-    by false true none here = refl
-    by false false none here = cc
+-- the deadline of a handshake, by what began it
+abbrev deadline_by : List Config → ℕ → Option Handshake → Option ℕ
+deadline_by configs n o = option_map (λ (h : Handshake). h.at + (dial_rules_at configs n).handshake_timeout) o
 
 -- ---- what it is told
 
@@ -75,44 +56,45 @@ untold_kept log e n tells untold k late =
 
 -- ---- what the log tells of it
 
-abbrev facts : ℕ → Bool → Bool → List Item → HandshakeFacts
+abbrev facts : Option ℕ → Bool → Bool → Option Handshake → HandshakeFacts
 facts until accepted finished began = record { until = until; accepted = accepted; finished = finished; began = began }
 
-facts_same : (u v : ℕ) (a b f g : Bool) (s t : List Item) → u ≡ v → a ≡ b → f ≡ g → s ≡ t → facts u a f s ≡ facts v b g t
+facts_same : (u v : Option ℕ) (a b f g : Bool) (s t : Option Handshake) → u ≡ v → a ≡ b → f ≡ g → s ≡ t → facts u a f s ≡ facts v b g t
 facts_same u v a b f g s t p q r w = ap (λ x. facts x a f s) p ∙ (ap (λ x. facts v x f s) q ∙ (ap (λ x. facts v b x s) r ∙ ap (λ x. facts v b g x) w))
 
 -- once a step of it took these
 abbrev pub facts_after : List Item → HandshakeFacts → HandshakeFacts
 facts_after items f = record { until = f.until; accepted = takes_acceptance items || f.accepted; finished = takes_exchange items || f.finished; began = f.began }
 
--- of one that begins in an entry
-abbrev pub facts_begun : List Config → List Entry → Entry → ℕ → HandshakeFacts
-facts_begun configs log e n = record { until = e.event.at + (dial_rules_at configs n).handshake_timeout; accepted = false; finished = false; began = taken log e }
+-- of one that begins so
+abbrev pub facts_begun : List Config → ℕ → Handshake → HandshakeFacts
+facts_begun configs n h = record { until = Some (h.at + (dial_rules_at configs n).handshake_timeout); accepted = false; finished = false; began = Some h }
 
 module _ (configs : List Config) (log : List Entry) (e : Entry) (n : ℕ) where
   -- of one that has begun, where the entry tells it nothing
   pub facts-kept : (k : ℕ) → suc k ≤ length log → TellsNothing log e n k → facts_of configs (log ++ e ∷ []) n k ≡ facts_of configs log n k
   facts-kept k early tells =
       facts_same (handshake_deadline configs (log ++ e ∷ []) k n) (handshake_deadline configs log k n) (is_accepted (log ++ e ∷ []) n k) (is_accepted log n k) (is_finished (log ++ e ∷ []) n k)
-      (is_finished log n k) (taken_at (log ++ e ∷ []) k) (taken_at log k) (deadline-longer configs log e k n early) tells.0 tells.1 (taken_at-longer log (e ∷ []) k early)
+      (is_finished log n k) (handshake_at (log ++ e ∷ []) k) (handshake_at log k) (ap (deadline_by configs n) (handshake_at-kept log e k early)) tells.0 tells.1 (handshake_at-kept log e k early)
 
   -- and where it is a step of it
   pub facts-stepped : (k : ℕ) (items : List Item) → suc k ≤ length log → e.event.act ≡ act.Handshake k n → taken log e ≡ items
       → facts_of configs (log ++ e ∷ []) n k ≡ facts_after items (facts_of configs log n k)
   facts-stepped k items early steps took =
       facts_same (handshake_deadline configs (log ++ e ∷ []) k n) (handshake_deadline configs log k n) (is_accepted (log ++ e ∷ []) n k) (takes_acceptance items || is_accepted log n k)
-      (is_finished (log ++ e ∷ []) n k) (takes_exchange items || is_finished log n k) (taken_at (log ++ e ∷ []) k) (taken_at log k) (deadline-longer configs log e k n early)
-      (told takes_acceptance) (told takes_exchange) (taken_at-longer log (e ∷ []) k early)
+      (is_finished (log ++ e ∷ []) n k) (takes_exchange items || is_finished log n k) (handshake_at (log ++ e ∷ []) k) (handshake_at log k)
+      (ap (deadline_by configs n) (handshake_at-kept log e k early)) (told takes_acceptance) (told takes_exchange) (handshake_at-kept log e k early)
     where
       told : (test : List Item → Bool) → has_taken test (log ++ e ∷ []) n k ≡ (test items || has_taken test log n k)
       told test = has_taken-step test log e n k steps ∙ ap (λ i. test i || has_taken test log n k) took
 
   -- of one that begins in the entry
-  pub facts-begun : TellsNothing log e n (length log) → IsUntold log n (length log) → facts_of configs (log ++ e ∷ []) n (length log) ≡ facts_begun configs log e n
-  facts-begun tells untold =
+  pub facts-begun : (h : Handshake) → handshake_at (log ++ e ∷ []) (length log) ≡ Some h → TellsNothing log e n (length log) → IsUntold log n (length log)
+      → facts_of configs (log ++ e ∷ []) n (length log) ≡ facts_begun configs n h
+  facts-begun h began tells untold =
       let k = length log in
-      facts_same (handshake_deadline configs (log ++ e ∷ []) k n) (e.event.at + (dial_rules_at configs n).handshake_timeout) (is_accepted (log ++ e ∷ []) n k) false (is_finished (log ++ e ∷ []) n k) false
-      (taken_at (log ++ e ∷ []) k) (taken log e) (deadline-last configs log e n) (tells.0 ∙ untold.0) (tells.1 ∙ untold.1) (taken_at-last log e)
+      facts_same (handshake_deadline configs (log ++ e ∷ []) k n) (Some (h.at + (dial_rules_at configs n).handshake_timeout)) (is_accepted (log ++ e ∷ []) n k) false (is_finished (log ++ e ∷ []) n k) false
+      (handshake_at (log ++ e ∷ []) k) (Some h) (ap (deadline_by configs n) began) (tells.0 ∙ untold.0) (tells.1 ∙ untold.1) began
 
 -- ---- all of them
 
@@ -155,14 +137,14 @@ module _ (configs : List Config) (log : List Entry) (e : Entry) (n : ℕ) where
   handshaking-begun : handshakes_of (log ++ e ∷ []) n ≡ handshakes_of log n ++ length log ∷ [] → (k : ℕ) → is_handshaking (log ++ e ∷ []) n k ≡ (is_handshaking log n k || ((k == length log) || false))
   handshaking-begun begins k = ap (list_any (λ j. k == j)) begins ∙ list_any-append (λ j. k == j) (handshakes_of log n) (length log ∷ [])
 
-  pub handshakes_begun : (hs : List (ℕ × Handshaking Key)) (h : Handshaking Key) → handshakes_of (log ++ e ∷ []) n ≡ handshakes_of log n ++ length log ∷ []
-      → ((k : ℕ) → TellsNothing log e n k) → IsUntold log n (length log) → IsRunning (facts_begun configs log e n) (length log) h → AreKept log hs
+  pub handshakes_begun : (hs : List (ℕ × Handshaking Key)) (h : Handshaking Key) (began : Handshake) → handshakes_of (log ++ e ∷ []) n ≡ handshakes_of log n ++ length log ∷ []
+      → handshake_at (log ++ e ∷ []) (length log) ≡ Some began → ((k : ℕ) → TellsNothing log e n k) → IsUntold log n (length log) → IsRunning (facts_begun configs n began) (length log) h → AreKept log hs
       → AreKept (log ++ e ∷ []) (insert_entry nat_cmp hs (length log) h)
-  handshakes_begun hs h begins tells untold running kept =
+  handshakes_begun hs h began begins begun tells untold running kept =
       let k = length log in
       handshakes_changed k (Some h) hs (insert_entry nat_cmp hs k h) (λ j other. handshaking-begun begins j ∙ (ap (λ b. is_handshaking log n j || (b || false)) other ∙ or_false (is_handshaking log n j)))
       (λ j other. tells j) (λ j. at-inserted k j h hs)
-      (handshaking-begun begins k ∙ (ap (λ b. is_handshaking log n k || (b || false)) (here k) ∙ or_true (is_handshaking log n k)), subst (λ f. IsRunning f k h) (sym (facts-begun configs log e n (tells k) untold)) running) kept
+      (handshaking-begun begins k ∙ (ap (λ b. is_handshaking log n k || (b || false)) (here k) ∙ or_true (is_handshaking log n k)), subst (λ f. IsRunning f k h) (sym (facts-begun configs log e n began begun (tells k) untold)) running) kept
     where
       here : (a : ℕ) → (a == a) ≡ true
       here a = grind (arith, nat_tests)

@@ -15,7 +15,7 @@ use Rattle.p2p_log_rules.specs.Links.{has_listening}
 use Rattle.p2p_log_rules.specs.Listening.{known_of}
 use Rattle.p2p_log_rules.specs.Tellings.{Telling}
 use Rattle.p2p_log_rules.specs.Tellings as telling
-use Rattle.p2p_log_rules.specs.Told.{tells, told}
+use Rattle.p2p_log_rules.specs.Told.{tells, told, is_link}
 use Rattle.p2p_log_rules.proofs.TellingKinds.{Kind}
 use Rattle.p2p_log_rules.proofs.TellingKinds as kind
 use Rattle.p2p_log_rules.proofs.Families.{telling_kind, kinds_of, has, are_apart, untold_of}
@@ -31,7 +31,7 @@ use Rattle.p2p_net_gates.proofs.Handshakes.{other_tells}
 -- a telling of a step of the listener of a node, or of a handshake of it
 abbrev pub of_steps : ℕ → Telling → Bool
 of_steps n (telling.arrival_taken m link handshake) = m == n
-of_steps n (telling.handshake_begun m h) = m == n
+of_steps n (telling.handshake_begun m h from key link at) = m == n
 of_steps n (telling.handshake_took m h items) = m == n
 of_steps n (telling.handshake_ended m h link) = m == n
 of_steps n (telling.update_taken m addresses) = m == n
@@ -52,7 +52,7 @@ listener_kinds = kind.node_stopped ∷ kind.link_opened ∷ step_kinds
 
 step_reads : (n : ℕ) (t : Telling) → has step_kinds (telling_kind t) ≡ false → of_steps n t ≡ false
 step_reads n (telling.arrival_taken m link handshake) h = cc
-step_reads n (telling.handshake_begun m k) h = cc
+step_reads n (telling.handshake_begun m k from key link at) h = cc
 step_reads n (telling.handshake_took m k items) h = cc
 step_reads n (telling.handshake_ended m k link) h = cc
 step_reads n (telling.update_taken m addresses) h = cc
@@ -63,7 +63,7 @@ listener_reads : (n : ℕ) (t : Telling) → has listener_kinds (telling_kind t)
 listener_reads n (telling.link_opened m j link to) h = cc
 listener_reads n (telling.node_stopped m) h = cc
 listener_reads n (telling.arrival_taken m link handshake) h = cc
-listener_reads n (telling.handshake_begun m k) h = cc
+listener_reads n (telling.handshake_begun m k from key link at) h = cc
 listener_reads n (telling.handshake_took m k items) h = cc
 listener_reads n (telling.handshake_ended m k link) h = cc
 listener_reads n (telling.update_taken m addresses) h = cc
@@ -85,7 +85,7 @@ module _ (log : List Entry) (e : Entry) (n : ℕ) where
     unstepped_handshakes = handshakes_of-kept log e n (weaker (of_steps n) (of_handshakes n) less (tells (told log) log e) none)
       where
         less : (t : Telling) → of_steps n t ≡ false → of_handshakes n t ≡ false
-        less (telling.handshake_begun m h) is = is
+        less (telling.handshake_begun m h from key link at) is = is
         less (telling.handshake_ended m h link) is = is
         less _ is = refl
 
@@ -137,7 +137,7 @@ module _ (log : List Entry) (e : Entry) (n : ℕ) where
       fewer : (k : ℕ) (t : Telling) → of_listener n t ≡ false → reads_some (has_listening n k) t ≡ false
       fewer k (telling.link_opened m j link to) is = none_read (to == n) (k == link) (Some listening.Arriving) is
       fewer k (telling.arrival_taken m link handshake) is = none_read (m == n) (k == link) (option_map listening.Handshake handshake) is
-      fewer k (telling.handshake_ended m h link) is = none_read (m == n) (k == link) None is
+      fewer k (telling.handshake_ended m h link) is = none_read (m == n) (is_link k link) None is
       fewer k (telling.node_stopped m) is = none_there (m == n) None is
       fewer k _ is = refl
 

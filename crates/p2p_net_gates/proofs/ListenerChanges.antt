@@ -7,7 +7,7 @@ use Rattle.std.proofs.lemmas.List.{map-append}
 use Rattle.p2p_base.specs.declared.key.Key.{Key}
 use Rattle.p2p_address.specs.declared.ip.SocketAddr.{SocketAddr}
 use Rattle.p2p_runtime.specs.QuotaPlaces.{Places}
-use Rattle.p2p_tracker_calls.specs.Gates.{GateRules, Known, nothing_known}
+use Rattle.p2p_tracker_calls.specs.Gates.{GateRules, Known}
 use Rattle.p2p_gates.specs.Gates.{rules_of}
 use Rattle.p2p_gates.specs.Handshaking.{Handshaking}
 use Rattle.p2p_gates.specs.Listening.{Listening as Actor, StandsFor, with_arrival, with_rest}
@@ -20,13 +20,11 @@ use Rattle.p2p_log.specs.declared.item.Item.{Item}
 use Rattle.p2p_log.specs.declared.item.Item.TheVariants as item
 use Rattle.p2p_log.specs.declared.item.Envelope.{Envelope}
 use Rattle.p2p_log.specs.declared.entry.Entry.{Entry}
-use Rattle.p2p_log.specs.declared.entry.Reply.{Reply}
-use Rattle.p2p_log.specs.declared.event.Act.{Act}
 use Rattle.p2p_log.specs.declared.event.Act.TheVariants as act
 use Rattle.p2p_log.specs.Lines.{name_of, live_from, line}
 use Rattle.p2p_log_rules.specs.Attempting.{dial_rules_at}
 use Rattle.p2p_log_rules.specs.Facts.{state_from, taken, with_named}
-use Rattle.p2p_log_rules.specs.Handshakes.{ends_handshake, handshakes_of, is_handshaking, has_taken, peer_at}
+use Rattle.p2p_log_rules.specs.Handshakes.{ends_handshake, handshakes_of, is_handshaking, has_taken, came_over}
 use Rattle.p2p_log_rules.specs.Links.{listening_ends_of}
 use Rattle.p2p_log_rules.specs.Standing.{standing}
 use Rattle.p2p_log_rules.specs.Told.{tells, told}
@@ -34,10 +32,9 @@ use Rattle.p2p_log_rules.specs.Listening.{gate_rules_at, most_handshakes_at, kno
 use Rattle.p2p_log_rules.proofs.Listening.{hearing_kinds, took_known, IsJudged, known_of-apart, known_of-listened}
 use Rattle.p2p_log_rules.specs.declared.row.ListeningEnd.{ListeningEnd}
 use Rattle.p2p_log_rules.specs.declared.row.ListeningEnd.TheVariants as listening
-use Rattle.p2p_log_rules.proofs.Facts.{state_from-append}
 use Rattle.p2p_log_rules.proofs.Families.{kinds_of, are_apart}
 use Rattle.p2p_log_rules.proofs.Handshakes.{without_name, handshakes_of-shaken, handshaking_early, one_less}
-use Rattle.p2p_log_rules.proofs.Links.{listening_ends_of-shaken}
+use Rattle.p2p_log_rules.proofs.Links.{listening_ends_of-shaken, without_end}
 use Rattle.p2p_net_queues.specs.Tables as table
 use Rattle.p2p_net_queues.specs.Tables.{AreBut}
 use Rattle.p2p_net_queues.proofs.Tables.{at-inserted}
@@ -228,7 +225,10 @@ pub record HandshakeMoves (configs : List Config) (log : List Entry) (e : Entry)
   pub rest : u ≡ record l { actor = freed_if ended l.actor; handshakes = u.handshakes; ends = u.ends }
   pub others : AreBut name now l.handshakes u.handshakes
   pub stands : HandshakeIs (facts_after items (facts_of configs log n name)) name (not ended) now
-  pub ends : EndsAre (ends_left ended (peer_at log name).link (table.at l.ends)) u.ends
+  -- over this link its peer came
+  pub link : ℕ
+  pub came : came_over log name ≡ Some link
+  pub ends : EndsAre (ends_left ended link (table.at l.ends)) u.ends
 
 -- whether it has ended, by what it took
 pub handshakes_stepped : (log : List Entry) (e : Entry) (n name : ℕ) (items : List Item) (ended : Bool) → e.event.act ≡ act.Handshake name n → taken log e ≡ items → ends_handshake e.reply items ≡ ended
@@ -237,17 +237,18 @@ handshakes_stepped log e n name items ended steps took over =
     handshakes_of-shaken log e n name steps ∙ ap (λ b. cond b (without_name name (handshakes_of log n)) (handshakes_of log n)) (ap (ends_handshake e.reply) took ∙ over)
 
 -- what has the listening ends then
-dropped_ends : (log : List Entry) (e : Entry) (n name : ℕ) (items : List Item) (ended : Bool) (ends : ℕ → Option ListeningEnd) → e.event.act ≡ act.Handshake name n → taken log e ≡ items
-    → ends_handshake e.reply items ≡ ended → ((k : ℕ) → ends k ≡ listening_ends_of log n k) → (k : ℕ) → listening_ends_of (log ++ e ∷ []) n k ≡ ends_left ended (peer_at log name).link ends k
-dropped_ends log e n name items ended ends steps took over same k =
+dropped_ends : (log : List Entry) (e : Entry) (n name link : ℕ) (items : List Item) (ended : Bool) (ends : ℕ → Option ListeningEnd) → e.event.act ≡ act.Handshake name n → taken log e ≡ items
+    → ends_handshake e.reply items ≡ ended → came_over log name ≡ Some link → ((k : ℕ) → ends k ≡ listening_ends_of log n k)
+    → (k : ℕ) → listening_ends_of (log ++ e ∷ []) n k ≡ ends_left ended link ends k
+dropped_ends log e n name link items ended ends steps took over came same k =
     let before : ℕ → Option ListeningEnd = listening_ends_of log n in
-    let link : ℕ = (peer_at log name).link in
     listening_ends_of-shaken log e n name n steps k
-    ∙ (ap (λ b. cond b (cond (ends_handshake e.reply (taken log e)) (with_named link None before k) (before k)) (before k)) (eq-eqb n n refl)
-    ∙ (ap (λ b. cond b (with_named link None before k) (before k)) (ap (ends_handshake e.reply) took ∙ over) ∙ by ended))
+    ∙ (ap (λ b. cond b (cond (ends_handshake e.reply (taken log e)) (without_end (came_over log name) before k) (before k)) (before k)) (eq-eqb n n refl)
+    ∙ (ap (λ b. cond b (without_end (came_over log name) before k) (before k)) (ap (ends_handshake e.reply) took ∙ over)
+    ∙ (ap (λ o. cond ended (without_end o before k) (before k)) came ∙ by ended)))
   where
-    by : (b : Bool) → cond b (with_named (peer_at log name).link None (listening_ends_of log n) k) (listening_ends_of log n k) ≡ ends_left b (peer_at log name).link ends k
-    by true = ap (λ o. cond (k == (peer_at log name).link) None o) (sym (same k))
+    by : (b : Bool) → cond b (with_named link None (listening_ends_of log n) k) (listening_ends_of log n k) ≡ ends_left b link ends k
+    by true = ap (λ o. cond (k == link) None o) (sym (same k))
     by false = sym (same k)
 
 -- the step of a handshake tells another nothing
@@ -285,7 +286,7 @@ listener_after_handshake configs log e n name l u items ended now s m =
       handshakes = handshakes_changed configs log e n name now l.handshakes u.handshakes (handshaking-others configs log e n name ended names) (λ k other. other_told log e n name k m.steps other) m.others
           (subst (λ b. HandshakeIs (facts_of configs (log ++ e ∷ []) n name) name b now) (sym (handshaking-itself configs log e n name ended names m.runs)) stays) s.handshakes;
       untold = untold_kept log e n (λ k past. other_told log e n name k m.steps (later k (length log) early past)) s.untold;
-      ends = λ k. m.ends k ∙ sym (dropped_ends log e n name items ended (table.at l.ends) m.steps m.took m.over s.ends k);
+      ends = λ k. m.ends k ∙ sym (dropped_ends log e n name m.link items ended (table.at l.ends) m.steps m.took m.over m.came s.ends k);
     })
   where
     early : suc name ≤ length log

@@ -33,9 +33,9 @@ use Rattle.p2p_log_rules.specs.Attempting.{Attempt, attempts_of}
 use Rattle.p2p_log_rules.specs.Dialing.{dials_of}
 use Rattle.p2p_log_rules.specs.Dropping.{LinkEnd, dialing_end, arrival_end}
 use Rattle.p2p_log_rules.specs.Facts.{is_up, is_started, is_stopped}
-use Rattle.p2p_log_rules.specs.Handshakes.{handshakes_of, is_handshaking, peer_at}
+use Rattle.p2p_log_rules.specs.Handshakes.{came_over, handshakes_of, is_handshaking}
 use Rattle.p2p_log_rules.specs.Listening.{most_handshakes_at}
-use Rattle.p2p_log_rules.specs.Told.{attempts_in, told}
+use Rattle.p2p_log_rules.specs.Told.{attempts_in, told, link_over}
 use Rattle.p2p_log_rules.proofs.Ascending.{attempts-ascend, handshakes-ascend}
 use Rattle.p2p_log_rules.proofs.Bools.{or_true}
 use Rattle.p2p_log_rules.proofs.Channels.{IsStopOf, stop_told, is_stopped-append}
@@ -201,12 +201,12 @@ module _ (configs : List Config) (log : List Entry) (n : ℕ) (l : Listening) (s
       by k (Some a) b h = sym h.0
 
   -- the peer of each came over the link that the log tells
-  pub handshake_link : (h : ℕ) (a : Handshaking Key) → Has l.handshakes (h, a) → a.arrival.link ≡ (peer_at log h).link
+  pub handshake_link : (h : ℕ) (a : Handshaking Key) → Has l.handshakes (h, a) → came_over log h ≡ Some a.arrival.link
   handshake_link h a has = by (table.at l.handshakes h) (s.handshakes h) (found_there l.handshakes h a sorted has)
     where
-      by : (o : Option (Handshaking Key)) → HandshakeIs (facts_of configs log n h) h (is_handshaking log n h) o → o ≡ Some a → a.arrival.link ≡ (peer_at log h).link
+      by : (o : Option (Handshaking Key)) → HandshakeIs (facts_of configs log n h) h (is_handshaking log n h) o → o ≡ Some a → came_over log h ≡ Some a.arrival.link
       by None it is = cc
-      by (Some b) it is = let same : b ≡ a = cc in ap (λ (x : Handshaking Key). x.arrival.link) (sym same) ∙ it.1.link
+      by (Some b) it is = let same : b ≡ a = cc in ap link_over it.1.began ∙ ap (λ (x : Handshaking Key). Some x.arrival.link) same
 
   -- each holds a place
   pub handshakes_held : length l.handshakes ≡ l.actor.places.held

@@ -12,8 +12,7 @@ use Rattle.p2p_log.specs.declared.item.Item.TheVariants as item
 use Rattle.p2p_log.specs.declared.entry.Entry.{Entry}
 use Rattle.p2p_log.specs.Lines.{name_of, line}
 use Rattle.p2p_log_rules.specs.Attempting.{dial_rules_at}
-use Rattle.p2p_log_rules.specs.Facts.{taken_at}
-use Rattle.p2p_log_rules.specs.Handshakes.{handshakes_of, is_handshaking, is_accepted, is_finished, source_of, peer_of}
+use Rattle.p2p_log_rules.specs.Handshakes.{Handshake, handshake_at, handshakes_of, is_handshaking, is_accepted, is_finished}
 use Rattle.p2p_log_rules.specs.Handshaking.{handshake_deadline}
 use Rattle.p2p_log_rules.specs.Links.{listening_ends_of}
 use Rattle.p2p_log_rules.specs.Listening.{gate_rules_at, most_handshakes_at, known_of}
@@ -28,31 +27,34 @@ arrival_item a = item.Arrival a.from a.key a.link
 -- ---- a handshake
 
 -- what the log tells of a handshake: until when its keys may be exchanged, whether it took that its peer may connect and that its keys were
--- exchanged, and what the step that began it took
+-- exchanged, and what began it
 pub record HandshakeFacts : Type 0 where
-  pub until : ℕ
+  pub until : Option ℕ
   pub accepted : Bool
   pub finished : Bool
-  pub began : List Item
+  pub began : Option Handshake
 
 abbrev pub facts_of : List Config → List Entry → ℕ → ℕ → HandshakeFacts
 facts_of configs log n name = record {
   until = handshake_deadline configs log name n;
   accepted = is_accepted log n name;
   finished = is_finished log n name;
-  began = taken_at log name;
+  began = handshake_at log name;
 }
+
+-- what begins a handshake is an arrival, at a moment
+abbrev pub begun_by : Arrival Key → ℕ → Handshake
+begun_by a at = record { source = a.from.ip; key = a.key; link = a.link; at = at }
 
 -- the handshake of this name, of which the log tells this, and which has not ended
 pub record IsRunning (f : HandshakeFacts) (k : ℕ) (h : Handshaking Key) : Type 0 where
   pub name : h.name ≡ k
-  pub deadline : h.deadline ≡ f.until
+  pub deadline : f.until ≡ Some h.deadline
   pub accepted : h.is_accepted ≡ f.accepted
   pub finished : h.is_finished ≡ f.finished
   -- its peer is the one that arrived
-  pub key : h.arrival.key ≡ (peer_of f.began).key
-  pub link : h.arrival.link ≡ (peer_of f.began).link
-  pub source : source_of f.began ≡ Some h.arrival.from.ip
+  pub at : ℕ
+  pub began : f.began ≡ Some (begun_by h.arrival at)
   pub runs : h.has_ended ≡ false
   pub works : h.has_failed ≡ false
 

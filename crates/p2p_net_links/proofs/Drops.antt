@@ -1,7 +1,6 @@
 -- What most entries drop of the ends of links: none.
 use Rattle.std.proofs.Common.{◌≡◌, ℕ, Bool, true, false, cond, List, [], ◌∷◌, refl, ap, ◌∙◌, Option, Some, None}
 use Rattle.p2p_log.specs.declared.queue.Queue.{Queue}
-use Rattle.p2p_log.specs.declared.queue.Side.TheVariants as side
 use Rattle.p2p_log.specs.declared.item.Item.{Item}
 use Rattle.p2p_log.specs.declared.entry.Entry.{Entry}
 use Rattle.p2p_log.specs.declared.entry.Reply.{Reply}
@@ -10,9 +9,9 @@ use Rattle.p2p_log.specs.declared.event.Act.{Act}
 use Rattle.p2p_log.specs.declared.event.Act.TheVariants as act
 use Rattle.p2p_log_rules.specs.declared.row.Half.{Half}
 use Rattle.p2p_log_rules.specs.Connections.{half_at, is_end}
-use Rattle.p2p_log_rules.specs.Dropping.{LinkEnd, dialing_end, arrival_end, half_end, drops_of}
+use Rattle.p2p_log_rules.specs.Dropping.{LinkEnd, dialing_end, arrival_end, half_end, drops_of, listening_end}
 use Rattle.p2p_log_rules.specs.Facts.{taken}
-use Rattle.p2p_log_rules.specs.Handshakes.{peer_at}
+use Rattle.p2p_log_rules.specs.Handshakes.{came_over}
 use Rattle.p2p_log_rules.specs.Puts.{gave_up, broke_off, turns_away}
 use Rattle.p2p_log_rules.proofs.Dropping.{all_of, drops_none, drops_of-none, drops_of-attempt, drops_of-handshake, drops_of-send, drops_of-receive, drops_of-listener}
 
@@ -56,7 +55,7 @@ is_stop _ = false
 done_by : (log : List Entry) (e : Entry) (a : Act) → e.event.act ≡ a → is_stop a ≡ false → gave_up e.puts ≡ false → broke_off e.reply (taken log e) e.puts ≡ false → is_end e.reply ≡ false
     → turns_away e.reply ≡ false → DropsNone log e
 done_by log e (act.Attempt k n) is goes_on kept whole lives let_in = drops_of-attempt log e k n is ∙ unless (gave_up e.puts) (dialing_end log n k) kept
-done_by log e (act.Handshake h n) is goes_on kept whole lives let_in = drops_of-handshake log e h n is ∙ unless (broke_off e.reply (taken log e) e.puts) (Some ((peer_at log h).link, side.In)) whole
+done_by log e (act.Handshake h n) is goes_on kept whole lives let_in = drops_of-handshake log e h n is ∙ unless (broke_off e.reply (taken log e) e.puts) (listening_end (came_over log h)) whole
 done_by log e (act.SendStep conn n) is goes_on kept whole lives let_in = drops_of-send log e conn n is ∙ unless (is_end e.reply) (half_end (half_at log n conn)) lives
 done_by log e (act.RecvStep conn n) is goes_on kept whole lives let_in = drops_of-receive log e conn n is ∙ unless (is_end e.reply) (half_end (half_at log n conn)) lives
 done_by log e (act.Listener n) is goes_on kept whole lives let_in = drops_of-listener log e n is ∙ unless (turns_away e.reply) (arrival_end (taken log e)) let_in

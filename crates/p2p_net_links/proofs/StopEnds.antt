@@ -10,8 +10,8 @@ use Rattle.p2p_log.specs.declared.entry.Entry.{Entry}
 use Rattle.p2p_log.specs.Lines.{line}
 use Rattle.p2p_log_rules.specs.declared.row.Half.{Half}
 use Rattle.p2p_log_rules.specs.Connections.{half_at}
-use Rattle.p2p_log_rules.specs.Dropping.{LinkEnd, drop_in, drops_in, drops_of, dialing_end, arrival_end, half_end}
-use Rattle.p2p_log_rules.specs.Handshakes.{handshakes_of, peer_at}
+use Rattle.p2p_log_rules.specs.Dropping.{LinkEnd, drop_in, drops_in, drops_of, dialing_end, arrival_end, half_end, listening_end}
+use Rattle.p2p_log_rules.specs.Handshakes.{handshakes_of, came_over}
 use Rattle.p2p_log_rules.specs.Halves.{half_in}
 use Rattle.p2p_log_rules.specs.Puts.{arrival_link}
 use Rattle.p2p_log_rules.specs.Spawning.{connections_of}
@@ -26,7 +26,7 @@ ends_had log n =
     flat_map (λ (x : Envelope). all_of (half_end (half_to_be (told log) n x.item))) (line log (queue.Spawner n))
     ++ (flat_map (λ (x : Envelope). all_of (arrival_end (x.item ∷ []))) (line log (queue.Arrivals n))
     ++ (flat_map (λ k. all_of (dialing_end log n k)) (attempts_in (told log) n)
-    ++ (flat_map (λ h. ((peer_at log h).link, side.In) ∷ []) (handshakes_of log n)
+    ++ (flat_map (λ h. all_of (listening_end (came_over log h))) (handshakes_of log n)
     ++ flat_map (λ conn. all_of (half_end (half_at log n conn))) (connections_in (told log) n))))
 
 -- what is told of each of a list, by the ends that each tells of
@@ -41,7 +41,7 @@ half_drops : (o : Option Half) → drops_in (half_dropped o) ≡ all_of (half_en
 half_drops None = refl
 half_drops (Some half) = refl
 
-arrival_drops : (o : Option ℕ) → drops_in (listening_dropped o) ≡ all_of (option_map (λ link. (link, side.In)) o)
+arrival_drops : (o : Option ℕ) → drops_in (listening_dropped o) ≡ all_of (listening_end o)
 arrival_drops None = refl
 arrival_drops (Some link) = refl
 
@@ -60,7 +60,7 @@ drops_stopped log e n stop =
     (before tried (shaken ++ made) attempts (handshakes ++ connections)
     (drops_each (attempt_stops (told log) n) (λ k. all_of (dialing_end log n k)) (λ k. dialing_drops (link_in (told log) n k)) (attempts_in (told log) n))
     (before shaken made handshakes connections
-    (drops_each (handshake_stops log n) (λ h. ((peer_at log h).link, side.In) ∷ []) (λ h. refl) (handshakes_in (told log) n))
+    (drops_each (handshake_stops (told log) n) (λ h. all_of (listening_end (came_over log h))) (λ h. arrival_drops (came_over log h)) (handshakes_in (told log) n))
     (drops_each (connection_stops (told log) n) (λ conn. all_of (half_end (half_at log n conn))) (λ conn. half_drops (half_in (told log) n conn)) (connections_in (told log) n)))))
   where
     arrived : List Telling
@@ -70,7 +70,7 @@ drops_stopped log e n stop =
     tried = flat_map (attempt_stops (told log) n) (attempts_in (told log) n)
 
     shaken : List Telling
-    shaken = flat_map (handshake_stops log n) (handshakes_in (told log) n)
+    shaken = flat_map (handshake_stops (told log) n) (handshakes_in (told log) n)
 
     made : List Telling
     made = flat_map (connection_stops (told log) n) (connections_in (told log) n)
@@ -85,7 +85,7 @@ drops_stopped log e n stop =
     attempts = flat_map (λ k. all_of (dialing_end log n k)) (attempts_in (told log) n)
 
     handshakes : List LinkEnd
-    handshakes = flat_map (λ h. ((peer_at log h).link, side.In) ∷ []) (handshakes_of log n)
+    handshakes = flat_map (λ h. all_of (listening_end (came_over log h))) (handshakes_of log n)
 
     connections : List LinkEnd
     connections = flat_map (λ conn. all_of (half_end (half_at log n conn))) (connections_in (told log) n)

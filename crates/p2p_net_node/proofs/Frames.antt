@@ -326,7 +326,7 @@ dials_none log n _ h = refl
 listener_unnamed : (log : List Entry) (e : Entry) (n : ℕ) (a : Act) → e.event.act ≡ a → names log a (at listener n) ≡ false → list_any (of_listener n) (tells (told log) log e) ≡ false
 listener_unnamed log e n (act.Listener m) acts h =
     let other : (m == n) ≡ false = grind (arith, nat_tests) in
-    quiet_told (told log) log e (of_listener n) (act.Listener m) acts (record { took = λ link o. other; begun = other; drops = λ link. refl }, record { update = λ addresses. other; arrival = λ from g. other })
+    quiet_told (told log) log e (of_listener n) (act.Listener m) acts (record { took = λ link o. other; begun = λ from key link. other; drops = λ link. refl }, record { update = λ addresses. other; arrival = λ from g. other })
 listener_unnamed log e n (act.Handshake k m) acts h =
     let other : (m == n) ≡ false = grind (arith, nat_tests) in
     quiet_told (told log) log e (of_listener n) (act.Handshake k m) acts (record { took = λ items. other; over = λ link. other; drops = λ link. refl })

@@ -28,10 +28,10 @@ use Rattle.p2p_net_gates.proofs.DialerChanges.{dialer_frame}
 use Rattle.p2p_net_gates.proofs.ListenerChanges.{listener_frame}
 use Rattle.p2p_log_rules.specs.Connections.{half_at, is_done, begins_connection, is_end, ends_connection}
 use Rattle.p2p_log_rules.specs.Dropping.{half_end}
-use Rattle.p2p_log_rules.specs.Facts.{stops, turns, registers_at, taken, item_named, with_named, is_stopped}
+use Rattle.p2p_log_rules.specs.Facts.{stops, turns, registers_at, taken, item_named, is_stopped}
 use Rattle.p2p_log_rules.proofs.Spawning.{connections_of-untaken}
 use Rattle.p2p_log_rules.specs.Effect.{only, row, effect}
-use Rattle.p2p_log_rules.specs.Handshakes.{ends_handshake, handshakes_of, peer_at}
+use Rattle.p2p_log_rules.specs.Handshakes.{ends_handshake, handshakes_of, came_over}
 use Rattle.p2p_log_rules.proofs.Listening.{known_of-untaken}
 use Rattle.p2p_net_tracker.specs.Stands.{asks_of}
 use Rattle.p2p_net_tracker.proofs.Changes.{tracker_frame}
@@ -60,7 +60,7 @@ use Rattle.p2p_log_rules.specs.declared.row.ListeningEnd.{ListeningEnd}
 use Rattle.p2p_log_rules.specs.Links.{listening_ends_of}
 use Rattle.p2p_log_rules.proofs.Families.{kinds_of, are_apart}
 use Rattle.p2p_log_rules.proofs.Handshakes.{Begins, Ends, Stops, handshakes_now}
-use Rattle.p2p_log_rules.proofs.Links.{listening_kinds, listening_ends_of-apart, listening_ends_of-listened, listening_ends_of-shaken}
+use Rattle.p2p_log_rules.proofs.Links.{listening_kinds, listening_ends_of-apart, listening_ends_of-listened, listening_ends_of-shaken, without_end}
 use Rattle.p2p_log_rules.proofs.Steps.{steps_tracker}
 use Rattle.p2p_log_rules.proofs.Answers.{takes_answer}
 use Rattle.p2p_net_node.proofs.Frames.{rests_on}
@@ -211,7 +211,7 @@ ends_still log e n (act.Listener m) rep is told q none k = listening_ends_of-lis
 ends_still log e n (act.Handshake h m) rep is told q none k =
     let ends : ℕ → Option ListeningEnd = listening_ends_of log n in
     listening_ends_of-shaken log e n h m is k
-    ∙ (ap (λ b. cond (m == n) (cond b (with_named (peer_at log h).link None ends k) (ends k)) (ends k)) (ap (λ r. ends_handshake r (taken log e)) told ∙ quiet_shakes h m rep (taken log e) q)
+    ∙ (ap (λ b. cond (m == n) (cond b (without_end (came_over log h) ends k) (ends k)) (ends k)) (ap (λ r. ends_handshake r (taken log e)) told ∙ quiet_shakes h m rep (taken log e) q)
     ∙ either_same (m == n) (ends k))
 ends_still log e n a rep is told q none k = listening_ends_of-apart log e n (ap (λ b. are_apart (kinds_of b) listening_kinds) is) k
 

@@ -18,9 +18,9 @@ use Rattle.p2p_log.specs.QueueCode.{same_queue}
 use Rattle.p2p_log.specs.Lines.{line}
 use Rattle.p2p_log.proofs.Queues.{same_queue-sym}
 use Rattle.p2p_log_rules.specs.declared.row.Opening.{Opening}
-use Rattle.p2p_log_rules.specs.Dropping.{LinkEnd, other_side, dialing_end, arriving_end, half_end}
+use Rattle.p2p_log_rules.specs.Dropping.{LinkEnd, other_side, dialing_end, arriving_end, half_end, listening_end}
 use Rattle.p2p_log_rules.specs.Effect.{effect}
-use Rattle.p2p_log_rules.specs.Handshakes.{peer_at}
+use Rattle.p2p_log_rules.specs.Handshakes.{came_over}
 use Rattle.p2p_log_rules.specs.Checking.{Check, check_of}
 use Rattle.p2p_log_rules.specs.Links.{openings_of}
 use Rattle.p2p_log_rules.specs.declared.row.Half.{Half}
@@ -357,7 +357,7 @@ ends-named configs log (act.Attempt e n) q h =
     both_false (same_queue (queue.Attempt n e) q) (in_flight towards q) (attempt_queue n e q off.third) (flight_kinds towards q off.first)
 ends-named configs log (act.Handshake e n) q h =
     let off = off_handshake log e n q h in
-    let towards : Option LinkEnd = Some ((peer_at log e).link, side.In) in
+    let towards : Option LinkEnd = listening_end (came_over log e) in
     both_false (same_queue (queue.Handshake n e) q) (in_flight towards q) (handshake_queue n e q off.second) (flight_kinds towards q off.first)
 ends-named configs log (act.Listener n) q h =
     flight_kinds (arriving_end log n) q (first_false (same_place links (home q)) (same_place (at tracker n) (home q) || (same_place (at listener n) (home q) || false)) h)

@@ -1,9 +1,8 @@
 -- What one more entry makes of the facts of a node's tracker.
-use Rattle.std.proofs.Common.{◌≡◌, ℕ, suc, ◌≤◌, Bool, true, false, cond, List, [], ◌∷◌, ◌++◌, refl, ap, sym, subst, ◌∙◌, arith, length, length-append, append-nil, Option, Some, None}
+use Rattle.std.proofs.Common.{◌≡◌, ℕ, ◌≤◌, Bool, true, false, cond, List, [], ◌∷◌, ◌++◌, refl, ap, sym, subst, ◌∙◌, arith, length, length-append, append-nil, Option, Some, None}
 use Rattle.std.specs.Prelude.{slice_get, flat_map, nat_lt, ◌==◌, ◌||◌}
 use Rattle.p2p_base.specs.declared.key.Key.{Key}
 use Rattle.std.specs.List.{list_any}
-use Rattle.p2p_address.specs.declared.ip.IpAddr.{IpAddr}
 use Rattle.p2p_tracker_calls.specs.Jitter.{jitter_of}
 use Rattle.p2p_log.specs.declared.config.Config.{Config}
 use Rattle.p2p_log.specs.declared.entry.Entry.{Entry}
@@ -11,12 +10,12 @@ use Rattle.p2p_log.specs.declared.event.Act.{Act}
 use Rattle.p2p_log.specs.declared.queue.Queue.TheVariants as queue
 use Rattle.p2p_log.specs.Lines.{line}
 use Rattle.p2p_log_rules.specs.Facts.{taken}
-use Rattle.p2p_log_rules.specs.Handshakes.{handshakes_of, is_handshaking, source_of, source_at}
+use Rattle.p2p_log_rules.specs.Handshakes.{handshakes_of, is_handshaking}
 use Rattle.p2p_log_rules.specs.Tracking.{asked_by, rules_at, grants_peer, calls_of, update_subscriptions, blocked_subscriptions}
 use Rattle.p2p_log_rules.proofs.Calls.{step_calls, call_where, calls_taken, subscribes, subscribes_blocked, calls_of-append, update_subscriptions-append, blocked_subscriptions-append}
 use Rattle.p2p_log_rules.specs.TrackerRows.{was_answered}
 use Rattle.p2p_log_rules.proofs.Answers.{takes_answer, was_answered-append}
-use Rattle.p2p_log_rules.proofs.TakenAt.{taken_at-longer, taken_at-late}
+pub use Rattle.p2p_log_rules.proofs.HandshakeBegun.{source_at-longer}
 use Rattle.p2p_log.proofs.Places.{slice_get-append}
 use Rattle.std.proofs.lemmas.Option.{slice_get_past}
 use Rattle.std.proofs.lemmas.Bool.Decides.{nat_tests}
@@ -114,17 +113,3 @@ pub handshaking-kept : (log : List Entry) (e : Entry) (n : ℕ) (lines : Lines (
 handshaking-kept log e n lines h same stands k =
     subst (λ l. HandshakeStands (line_of lines k) (list_any (λ j. k == j) l) (line (log ++ e ∷ []) (queue.Handshake n k))) (sym h)
     (subst (HandshakeStands (line_of lines k) (is_handshaking log n k)) (sym (same k)) (stands k))
-
--- from where a peer came stays so
-pub source_at-longer : (log more : List Entry) (name : ℕ) (source : IpAddr) → source_at log name ≡ Some source → source_at (log ++ more) name ≡ Some source
-source_at-longer log more name source h = by (nat_lt name (length log)) refl
-  where
-    early : (a b : ℕ) → nat_lt a b ≡ true → suc a ≤ b
-    early a b is = grind (arith, nat_tests)
-
-    late : (a b : ℕ) → nat_lt a b ≡ false → b ≤ a
-    late a b is = grind (arith, nat_tests)
-
-    by : (b : Bool) → nat_lt name (length log) ≡ b → source_at (log ++ more) name ≡ Some source
-    by true is = ap source_of (taken_at-longer log more name (early name (length log) is)) ∙ h
-    by false is = let none : None ≡ Some source = sym (ap source_of (taken_at-late log name (late name (length log) is))) ∙ h in cc

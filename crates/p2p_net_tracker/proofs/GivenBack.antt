@@ -1,7 +1,6 @@
 -- Which side a reservation is of that is given back: in a longer log, and by the entry that gives it back.
-use Rattle.std.proofs.Common.{◌≡◌, ℕ, zero, suc, ◌≤◌, Bool, true, false, List, [], ◌∷◌, ◌++◌, take, length, Option, Some, None, refl, ap, sym, ◌∙◌, arith}
+use Rattle.std.proofs.Common.{◌≡◌, ℕ, zero, suc, ◌≤◌, Bool, true, false, List, [], ◌∷◌, ◌++◌, take, length, Option, Some, None, refl, ap, ◌∙◌, arith}
 use Rattle.std.specs.Prelude.{slice_get}
-use Rattle.std.specs.List.{list_any}
 use Rattle.std.specs.Option.{option_map}
 use Rattle.std.proofs.lemmas.List.{take_all, take-append-le}
 use Rattle.p2p_base.specs.declared.key.Key.{Key}
@@ -24,13 +23,14 @@ use Rattle.p2p_log.specs.declared.event.Act.TheVariants as act
 use Rattle.p2p_log_rules.specs.declared.row.Half.{Half}
 use Rattle.p2p_log_rules.specs.Connections.{half_at}
 use Rattle.p2p_log_rules.specs.Halves.{half_in}
-use Rattle.p2p_log_rules.specs.HandshakeSteps.{ends_handshake, peer_at}
+use Rattle.p2p_log_rules.specs.HandshakeSteps.{ends_handshake}
 use Rattle.p2p_log_rules.specs.Puts.{broke_off}
 use Rattle.p2p_log_rules.specs.Spawning.{connections_of}
 use Rattle.p2p_log_rules.specs.Taking.{taken}
 use Rattle.p2p_log_rules.specs.Tellings.{Telling, or_new, first_or}
 use Rattle.p2p_log_rules.specs.Tellings as telling
-use Rattle.p2p_log_rules.specs.Told.{when, link_in, done_tells, dialing_dropped, half_dropped, over_tells, took_tells, left_tells, handshake_tells, sender_tells, act_tells, tells, told}
+use Rattle.p2p_log_rules.specs.Told.{when, link_in, done_tells, dialing_dropped, half_dropped, over_tells, took_tells, left_tells, handshake_tells, sender_tells, act_tells, tells, told, listening_dropped}
+use Rattle.p2p_log_rules.specs.Handshakes.{came_over}
 use Rattle.p2p_net_queues.specs.Matching.{Match}
 use Rattle.p2p_net_queues.proofs.Matching.{Match-weaker, slice_get-longer, slice_get-last}
 use Rattle.p2p_net_tracker.specs.GivenBack.{side_freed, side_freed_by, side_freed_at, IsOfSide, IsGivenBack}
@@ -98,7 +98,7 @@ module _ (ts : List Telling) where
       by item.Linked = freed_once side.Out (dialing_dropped link)
       by _ = freed_once side.Out (dialing_dropped link)
 
-  handshake_freed : (n h link : ℕ) (over : Bool) (items : List Item) (us : List Telling) → over ≡ true → first_or None (side_freed ts) (handshake_tells n h link over items ++ us) ≡ Some side.In
+  handshake_freed : (n h : ℕ) (link : Option ℕ) (over : Bool) (items : List Item) (us : List Telling) → over ≡ true → first_or None (side_freed ts) (handshake_tells n h link over items ++ us) ≡ Some side.In
   handshake_freed n h link true items us is = freed_once side.In us
   handshake_freed n h link false items us is = absurd (cc)
 
@@ -124,9 +124,9 @@ module _ (log : List Entry) (e : Entry) (n : ℕ) where
   unfolding tells
   handshake_gives h acts ends =
       let ts = told log in
-      let link : ℕ = (peer_at log h).link in
+      let link : Option ℕ = came_over log h in
       ap (λ a. first_or None (side_freed ts) (act_tells ts log (length log) e.event.at e.event.seed e.reply (taken log e) e.puts a)) acts
-      ∙ handshake_freed ts n h link (ends_handshake e.reply (taken log e)) (taken log e) (when (broke_off e.reply (taken log e) e.puts) (telling.end_dropped link side.In ∷ [])) ends
+      ∙ handshake_freed ts n h link (ends_handshake e.reply (taken log e)) (taken log e) (when (broke_off e.reply (taken log e) e.puts) (listening_dropped link)) ends
 
   -- a connection that ends is of the side of its half
   module _ (conn : ℕ) (why : Ended) (half : Half) (replies : e.reply ≡ reply.Ended why) (has : half_at log n conn ≡ Some half) where

@@ -6,7 +6,7 @@ use Rattle.p2p_log_rules.specs.Told.{tells, told}
 use Rattle.p2p_log_rules.specs.Closing.{is_closed}
 use Rattle.p2p_log_rules.specs.Connections.{half_at, is_begun, has_run, is_ended}
 use Rattle.p2p_log_rules.specs.Effect.{effect, row}
-use Rattle.p2p_log_rules.specs.Facts.{is_up, is_started, is_stopped, rates, channels, taken, taken_at, history_from, state_from}
+use Rattle.p2p_log_rules.specs.Facts.{is_up, is_started, is_stopped, rates, channels, taken, history_from, state_from}
 use Rattle.p2p_log_rules.specs.Metering.{admitted}
 use Rattle.p2p_log_rules.specs.Spawning.{connections_of}
 use Rattle.p2p_runtime.specs.QuotaLaw.{admits}
@@ -33,7 +33,7 @@ unfolding effect row line live_from state_from taken tells told channels rates i
 leaves = refl
 
 late : effect two_nodes (message_comes ++ reader_leaves ∷ []) message_late.event ≡ message_late
-unfolding effect row line live_from channels rates is_up is_started is_stopped admits admitted taken taken_at history_from state_from decode_frame varint_at half_at is_begun has_run is_ended connections_of told tells last_told is_closed
+unfolding effect row line live_from channels rates is_up is_started is_stopped admits admitted taken history_from state_from decode_frame varint_at half_at is_begun has_run is_ended connections_of told tells last_told is_closed
 late = refl
 
 pub returns : goal.returns

@@ -17,7 +17,7 @@ use Rattle.p2p_log_rules.specs.Dropping.{is_dropped}
 use Rattle.p2p_log_rules.specs.Standing.{standing}
 use Rattle.p2p_log_rules.specs.Tellings.{last_told}
 use Rattle.p2p_log_rules.specs.Told.{tells, told}
-use Rattle.p2p_log_rules.specs.Facts.{is_up, is_started, is_stopped, rates, channels, taken, taken_at, history_from, state_from, subscribers, routes}
+use Rattle.p2p_log_rules.specs.Facts.{is_up, is_started, is_stopped, rates, channels, taken, history_from, state_from, subscribers, routes}
 use Rattle.p2p_log_rules.specs.Handshakes.{handshakes_of, has_taken}
 use Rattle.p2p_log_rules.specs.Links.{openings_of, listening_ends_of}
 use Rattle.p2p_log_rules.specs.Listening.{known_of}
@@ -42,11 +42,11 @@ use Rattle.p2p_log_laws.proofs.Following.{Follow, lawful_following}
 use Rattle.p2p_log_laws.proofs.worked.worked_rows.Goals as goal
 
 overwritten : effect two_nodes delivery_begins list_overwritten.event ≡ list_overwritten
-unfolding effect row line live_from channels rates is_up is_started is_stopped sent_moments admits taken taken_at history_from state_from subscribers routes half_at is_begun has_run is_ended told tells last_told is_dropped is_cut connections_of
+unfolding effect row line live_from channels rates is_up is_started is_stopped sent_moments admits taken history_from state_from subscribers routes half_at is_begun has_run is_ended told tells last_told is_dropped is_cut connections_of
 overwritten = refl
 
 delivery_follows : Follow two_nodes [] delivery
-unfolding effect row line live_from channels rates is_up is_started is_stopped sent_moments admits taken taken_at history_from state_from subscribers routes half_at is_begun has_run is_ended told tells last_told is_dropped is_cut attempts_of dials_of handshakes_of standing has_taken openings_of listening_ends_of known_of connections_of calls_of update_subscriptions blocked_subscriptions block_of is_held address_of last_grant is_stale is_connected all_names how_many accepted_sets kept_sets is_tracked is_primary primary_sets secondary_sets kept_of written_over frame decode_frame spelling varint_at exchanged last_pinged admitted is_closed
+unfolding effect row line live_from channels rates is_up is_started is_stopped sent_moments admits taken history_from state_from subscribers routes half_at is_begun has_run is_ended told tells last_told is_dropped is_cut attempts_of dials_of handshakes_of standing has_taken openings_of listening_ends_of known_of connections_of calls_of update_subscriptions blocked_subscriptions block_of is_held address_of last_grant is_stale is_connected all_names how_many accepted_sets kept_sets is_tracked is_primary primary_sets secondary_sets kept_of written_over frame decode_frame spelling varint_at exchanged last_pinged admitted is_closed
 delivery_follows =
     (refl, (refl, (refl, (refl, (refl, (refl, (refl, (refl, (refl, (refl, (refl, (refl, (refl, (refl, (refl, (refl, (refl, (refl, (refl, (refl, (refl, (refl, (refl, (refl, (refl, (refl, (refl, (refl, (refl, (refl, (refl, (refl, (refl, (refl, (refl, (refl, (refl, (refl, (refl, (refl, (refl, tt)))))))))))))))))))))))))))))))))))))))))
 
