@@ -35,7 +35,7 @@ use Rattle.p2p_log.proofs.Each.{Each-weaker, count_by-none}
 use Rattle.p2p_log.proofs.Queues.{same_queue-refl}
 use Rattle.p2p_log_rules.specs.Connections.{is_ended}
 use Rattle.p2p_log_rules.specs.declared.row.Row.{Row}
-use Rattle.p2p_log_rules.specs.Attempting.{Attempt, dial_rules_at, attempts_of, resolved, given_up_row, resolved_row, handed_on_row, link_of, attempt_took_row, attempt_turn, attempt_by, attempt_row}
+use Rattle.p2p_log_rules.specs.Attempting.{Attempt, dial_rules_at, attempts_of, resolved, given_up_row, resolved_row, handed_on_row, linked_row, attempt_took_row, attempt_turn, attempt_by, attempt_row}
 use Rattle.p2p_log_rules.specs.Dialing.{Dials, dials_of, in_drawn_order, last_key, dial_puts, answer_taken_row, due_row, dialer_turn, dialer_row}
 use Rattle.p2p_log_rules.specs.Dropping.{LinkEnd, dialing_end, arriving_end, dropping, attempt_step_row, listener_step_row}
 use Rattle.p2p_log_rules.specs.Puts.{gave_up, turns_away}
@@ -266,10 +266,14 @@ module _ (w : Words) (n name : ℕ) where
     ready_silent m true key link took left = release_silent m key
     ready_silent m false key link took left = (silent_away (queue.Spawner m) (item.Spawn key link) refl refl, tt)
 
+    linked_silent : (m : ℕ) (full : Bool) (key : Key) (o : Option ℕ) (took : ℕ × ℕ) (left : List Envelope) → Each Silent (linked_row m full key o took left).puts
+    linked_silent m full key None took left = release_silent m key
+    linked_silent m full key (Some link) took left = ready_silent m full key link took left
+
     tried_silent : (m : ℕ) (full private : Bool) (a : Attempt) (took : ℕ × ℕ) (i : Item) (left : List Envelope) → Each Silent (attempt_took_row m full private seed a took i left).puts
     tried_silent m full private a took (item.Resolved addresses) left = resolved_silent m (resolved a.address private addresses seed a) a.key took left
     tried_silent m full private a took item.Linked left = tt
-    tried_silent m full private a took (item.Finished true) left = ready_silent m full a.key (link_of a.answer) took left
+    tried_silent m full private a took (item.Finished true) left = linked_silent m full a.key a.answer took left
     tried_silent m full private a took (item.Finished false) left = release_silent m a.key
     tried_silent m full private a took _ left = release_silent m a.key
 

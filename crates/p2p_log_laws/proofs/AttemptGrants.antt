@@ -15,7 +15,7 @@ use Rattle.p2p_log.specs.Taken.{AreTaken}
 use Rattle.p2p_log.proofs.Each.{Each-weaker}
 use Rattle.p2p_log.proofs.Queues.{same_queue-refl}
 use Rattle.p2p_log_rules.specs.declared.row.Row.{Row}
-use Rattle.p2p_log_rules.specs.Attempting.{Attempt, resolved, left_ends, given_up_row, resolved_row, handed_on_row, link_of, attempt_took_row, attempt_turn}
+use Rattle.p2p_log_rules.specs.Attempting.{Attempt, resolved, left_ends, given_up_row, resolved_row, handed_on_row, linked_row, attempt_took_row, attempt_turn}
 use Rattle.p2p_log_rules.specs.Moves.{Moves}
 use Rattle.p2p_log_rules.specs.Puts.{ends_attempt}
 use Rattle.p2p_log_rules.specs.Rows.{only}
@@ -100,9 +100,13 @@ module _ (n : ℕ) (key : Key) (log : List Entry) (e : ℕ) (at seed : ℕ) (a :
     by_resolved None = gives_up (x ∷ []) rest first
     by_resolved (Some b) = goes_on x rest first
 
+    by_answer : (full : Bool) (o : Option ℕ) → Ends (linked_row n full a.key o (name_of x) rest)
+    by_answer full None = gives_up (x ∷ []) rest first
+    by_answer full (Some link) = ready full link x rest first
+
     by_item : (full private : Bool) (i : Item) → Ends (attempt_took_row n full private seed a (name_of x) i rest)
     by_item full private (item.Resolved addresses) = by_resolved (resolved a.address private addresses seed a)
-    by_item full private (item.Finished true) = ready full (link_of a.answer) x rest first
+    by_item full private (item.Finished true) = by_answer full a.answer
     by_item full private (item.Finished false) = gives_up (x ∷ []) rest first
     by_item full private item.Linked = goes_on x rest first
     by_item full private _ = gives_up (x ∷ []) rest first

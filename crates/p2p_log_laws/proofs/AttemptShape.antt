@@ -27,9 +27,9 @@ use Rattle.p2p_log_rules.proofs.Dropping.{all_of, drops_of-attempt}
 use Rattle.p2p_log_rules.specs.Dropping.{LinkEnd, other_side, dialing_end, dropping, attempt_step_row}
 use Rattle.p2p_log_rules.specs.Puts.{gave_up}
 use Rattle.p2p_log_rules.specs.Effect.{entry_of}
-use Rattle.p2p_log_rules.specs.Facts.{is_up, key_at, taken}
+use Rattle.p2p_log_rules.specs.Facts.{is_up, key_at}
 use Rattle.p2p_log_rules.specs.Rows.{only, is_spawner_full, taken_row}
-use Rattle.p2p_log_rules.specs.Attempting.{Attempt, dial_rules_at, attempts_of, resolved, given_up_row, resolved_row, handed_on_row, link_of, attempt_took_row, attempt_turn, attempt_by, attempt_row, attempt_told_row, resolve_by, resolve_row, link_item, dial_answered_row, refuse_row, connected_row, connect_row}
+use Rattle.p2p_log_rules.specs.Attempting.{Attempt, dial_rules_at, attempts_of, resolved, given_up_row, resolved_row, handed_on_row, linked_row, attempt_took_row, attempt_turn, attempt_by, attempt_row, attempt_told_row, resolve_by, resolve_row, link_item, dial_answered_row, refuse_row, connected_row, connect_row}
 use Rattle.p2p_log_laws.proofs.Reaching.{in_flight, writes, ends_in}
 use Rattle.p2p_log_laws.proofs.DropShape.{attempt_aside, dropping_shape}
 use Rattle.p2p_log_laws.proofs.LineShape.{Within, still_within, ended_within, asking_within}
@@ -67,6 +67,10 @@ module _ (configs : List Config) (log : List Entry) (e n : ℕ) where
   ready_within false key link x rest first =
       ended_within configs log a q (same_queue-refl q) refl (λ r. refl) written (x ∷ []) rest first ((queue.Spawner n, item.Spawn key link) ∷ []) ((refl, refl), tt) (spawns, tt)
 
+  linked_within : (full : Bool) (key : Key) (o : Option ℕ) (x : Envelope) (rest : List Envelope) → line log q ≡ x ∷ rest → Within configs log a q (linked_row n full key o (name_of x) rest)
+  linked_within full key None x rest first = given_up_within (x ∷ []) rest first key
+  linked_within full key (Some link) x rest first = ready_within full key link x rest first
+
   resolved_within : (o : Option Attempt) (key : Key) (x : Envelope) (rest : List Envelope) → line log q ≡ x ∷ rest → Within configs log a q (resolved_row o n key (name_of x) rest)
   resolved_within None key x rest first = given_up_within (x ∷ []) rest first key
   resolved_within (Some b) key x rest first = taken_within x rest first
@@ -75,7 +79,7 @@ module _ (configs : List Config) (log : List Entry) (e n : ℕ) where
       → Within configs log a q (attempt_took_row n full private seed b (name_of x) i rest)
   took_within full private seed b x rest first (item.Resolved addresses) = resolved_within (resolved b.address private addresses seed b) b.key x rest first
   took_within full private seed b x rest first item.Linked = taken_within x rest first
-  took_within full private seed b x rest first (item.Finished true) = ready_within full b.key (link_of b.answer) x rest first
+  took_within full private seed b x rest first (item.Finished true) = linked_within full b.key b.answer x rest first
   took_within full private seed b x rest first (item.Finished false) = given_up_within (x ∷ []) rest first b.key
   took_within full private seed b x rest first _ = given_up_within (x ∷ []) rest first b.key
 

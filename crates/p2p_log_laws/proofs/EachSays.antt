@@ -35,7 +35,7 @@ use Rattle.p2p_log_rules.specs.declared.row.Opening.{Opening}
 use Rattle.p2p_log_rules.specs.declared.row.ListeningEnd.{ListeningEnd}
 use Rattle.p2p_log_rules.specs.declared.row.ListeningEnd.TheVariants as listening
 use Rattle.p2p_log_rules.specs.declared.row.Row.{Row}
-use Rattle.p2p_log_rules.specs.Attempting.{Attempt, dial_rules_at, attempts_of, resolved, given_up_row, resolved_row, handed_on_row, link_of, attempt_took_row, attempt_turn, attempt_by, attempt_row, resolve_by, resolve_row, refuse_row, connect_row}
+use Rattle.p2p_log_rules.specs.Attempting.{Attempt, dial_rules_at, attempts_of, resolved, given_up_row, resolved_row, handed_on_row, linked_row, attempt_took_row, attempt_turn, attempt_by, attempt_row, resolve_by, resolve_row, refuse_row, connect_row}
 use Rattle.p2p_log_rules.specs.Dropping.{dialing_end, attempt_step_row, handshake_step_row, listening_end}
 use Rattle.p2p_log_rules.specs.Puts.{gave_up, broke_off}
 use Rattle.p2p_log_rules.specs.Effect.{effect, row}
@@ -221,10 +221,14 @@ module _ (configs : List Config) (log : List Entry) where
     -- ---- the step of an attempt
 
     module _ (e n : ℕ) (a : Attempt) (here : attempts_of configs log n e ≡ Some a) where
-      dialed_leads : IsDialed configs log n e → LeadsTo configs log n a.key (link_of a.answer)
-      dialed_leads dialed =
+      dialed_leads : (link : ℕ) → a.answer ≡ Some link → IsDialed configs log n e → LeadsTo configs log n a.key link
+      dialed_leads link answered dialed =
           let to : IsLinkedTo configs log n a = dialed.1 a here in
-          (to.to, inl (subst (λ o. Links log (link_of o) n to.to) (sym to.answer) to.links), to.key)
+          (to.to, inl (subst (λ l. Links log l n to.to) (same_Some to.link link (sym to.answer ∙ answered)) to.links), to.key)
+
+      linked_says : (full : Bool) (o : Option ℕ) → a.answer ≡ o → (name : ℕ × ℕ) (left : List Envelope) → IsDialed configs log n e → Each P (linked_row n full a.key o name left).puts
+      linked_says full None answered name left says = (tt, tt)
+      linked_says full (Some link) answered name left says = ready_says n full a.key link name left (dialed_leads link answered says)
 
       resolved_says : (o : Option Attempt) (name : ℕ × ℕ) (left : List Envelope) → Each P (resolved_row o n a.key name left).puts
       resolved_says None name left = (tt, tt)
@@ -233,7 +237,7 @@ module _ (configs : List Config) (log : List Entry) where
       tried_says : (full private : Bool) (name : ℕ × ℕ) (i : Item) (left : List Envelope) → Says configs log (queue.Attempt n e) i → Each P (attempt_took_row n full private seed a name i left).puts
       tried_says full private name (item.Resolved addresses) left says = resolved_says (resolved a.address private addresses seed a) name left
       tried_says full private name item.Linked left says = tt
-      tried_says full private name (item.Finished true) left says = ready_says n full a.key (link_of a.answer) name left (dialed_leads says)
+      tried_says full private name (item.Finished true) left says = linked_says full a.answer refl name left says
       tried_says full private name (item.Finished false) left says = (tt, tt)
       tried_says full private name _ left says = (tt, tt)
 

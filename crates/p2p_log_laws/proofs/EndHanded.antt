@@ -20,7 +20,7 @@ use Rattle.p2p_log.specs.Lines.{name_of, line}
 use Rattle.p2p_log.proofs.Each.{Each-has, Has-get}
 use Rattle.p2p_log_rules.specs.declared.row.Opening.{Opening}
 use Rattle.p2p_log_rules.specs.declared.row.Row.{Row}
-use Rattle.p2p_log_rules.specs.Attempting.{Attempt, dial_rules_at, resolved, attempts_of, given_up_row, resolved_row, handed_on_row, link_of, attempt_took_row, attempt_turn, attempt_by, attempt_row}
+use Rattle.p2p_log_rules.specs.Attempting.{Attempt, dial_rules_at, resolved, attempts_of, given_up_row, resolved_row, handed_on_row, linked_row, attempt_took_row, attempt_turn, attempt_by, attempt_row}
 use Rattle.p2p_log_rules.proofs.Attempts.{attempt_told}
 use Rattle.p2p_log_rules.proofs.AttemptTellings.{attempts_of-stepped}
 use Rattle.p2p_log_rules.specs.Dropping.{LinkEnd, dropping, dialing_end, attempt_step_row, handshake_step_row, listening_end}
@@ -107,24 +107,32 @@ module _ (log : List Entry) (n : ℕ) where
 
   module _ (configs : List Config) (k m at seed : ℕ) where
     module _ (a : Attempt) where
+      -- over the link that answered its dial
       abbrev AttemptHands : Row → Type 0
-      AttemptHands = Hands IsFinish m (link_of a.answer)
+      AttemptHands r = (p : ℕ) (i : Item) → slice_get r.puts p ≡ Some (queue.Spawner n, i) → (link : ℕ) × (a.answer ≡ Some link) × IsHanding IsFinish m link p i r
+
+      gives_up_hands : (names : List (ℕ × ℕ)) (left : List Envelope) → AttemptHands (given_up_row m a.key names left)
+      gives_up_hands names left p i put = absurd (other_put (queue.Tracker m) (item.Release a.key) (λ e. cc) p i put)
 
       resolved_hands : (o : Option Attempt) (name : ℕ × ℕ) (left : List Envelope) → AttemptHands (resolved_row o m a.key name left)
-      resolved_hands None name left = given_up_hands IsFinish m (link_of a.answer) a.key (name ∷ []) left
+      resolved_hands None name left = gives_up_hands (name ∷ []) left
       resolved_hands (Some b) name left = λ p i put. absurd (no_put p i put)
+
+      linked_hands : (o : Option ℕ) → a.answer ≡ o → (full : Bool) (name : ℕ × ℕ) (left : List Envelope) → item_named log name ≡ item.Finished true ∷ [] → AttemptHands (linked_row m full a.key o name left)
+      linked_hands None answered full name left named p i put = gives_up_hands (name ∷ []) left p i put
+      linked_hands (Some link) answered full name left named p i put = (link, answered, ready_hands IsFinish m link full a.key name left (item.Finished true) named refl p i put)
 
       took_hands : (full private : Bool) (name : ℕ × ℕ) (i : Item) (left : List Envelope) → item_named log name ≡ i ∷ [] → AttemptHands (attempt_took_row m full private seed a name i left)
       took_hands full private name (item.Resolved addresses) left named = resolved_hands (resolved a.address private addresses seed a) name left
       took_hands full private name item.Linked left named = λ p i put. absurd (no_put p i put)
-      took_hands full private name (item.Finished true) left named = ready_hands IsFinish m (link_of a.answer) full a.key name left (item.Finished true) named refl
-      took_hands full private name _ left named = given_up_hands IsFinish m (link_of a.answer) a.key (name ∷ []) left
+      took_hands full private name (item.Finished true) left named = linked_hands a.answer refl full name left named
+      took_hands full private name _ left named = gives_up_hands (name ∷ []) left
 
       turn_hands : (full private : Bool) (xs : List Envelope) → line log (queue.Attempt m k) ≡ xs → AttemptHands (attempt_turn m at seed full private a xs)
       turn_hands full private [] first = by (nat_le a.deadline at)
         where
           by : (b : Bool) → AttemptHands (cond b (given_up_row m a.key [] []) (only reply.Idle))
-          by true = given_up_hands IsFinish m (link_of a.answer) a.key [] []
+          by true = gives_up_hands [] []
           by false = λ p i put. absurd (no_put p i put)
       turn_hands full private (x ∷ rest) first = took_hands full private (name_of x) x.item rest (item_named-first log (queue.Attempt m k) x rest first)
 
@@ -132,14 +140,16 @@ module _ (log : List Entry) (n : ℕ) where
     record AttemptHanding (p : ℕ) (i : Item) (r : Row) : Type 0 where
       pub attempt : Attempt
       pub stood : attempts_of configs log m k ≡ Some attempt
-      pub handing : IsHanding IsFinish m (link_of attempt.answer) p i r
+      pub link : ℕ
+      pub answered : attempt.answer ≡ Some link
+      pub handing : IsHanding IsFinish m link p i r
 
     tried_hands : (full private : Bool) (o : Option Attempt) → attempts_of configs log m k ≡ o → (p : ℕ) (i : Item)
         → slice_get (attempt_by o m at seed full private (line log (queue.Attempt m k))).puts p ≡ Some (queue.Spawner n, i)
         → AttemptHanding p i (attempt_by o m at seed full private (line log (queue.Attempt m k)))
     tried_hands full private None stood p i put = absurd (no_put p i put)
     tried_hands full private (Some a) stood p i put =
-        record { attempt = a; stood = stood; handing = turn_hands a full private (line log (queue.Attempt m k)) refl p i put }
+        let h = turn_hands a full private (line log (queue.Attempt m k)) refl p i put in record { attempt = a; stood = stood; link = h.0; answered = h.1; handing = h.2 }
 
     attempt_hands : (p : ℕ) (i : Item) → slice_get (attempt_step_row configs log k m at seed).puts p ≡ Some (queue.Spawner n, i) → AttemptHanding p i (attempt_step_row configs log k m at seed)
     attempt_hands p i =
@@ -155,6 +165,8 @@ module _ (log : List Entry) (n : ℕ) where
             record {
               attempt = k.attempt;
               stood = k.stood;
+              link = k.link;
+              answered = k.answered;
               handing = record { place = g.place; node = g.node; key = g.key; is = g.is; ok = g.ok; word = g.word; items = g.items; such = g.such };
             }
 
@@ -229,7 +241,7 @@ pub record IsDialedOn (configs : List Config) (log : List Entry) (n link : ℕ) 
   pub acts : e.event.act ≡ act.Attempt attempt n
   pub a : Attempt
   pub stood : attempts_of configs log n attempt ≡ Some a
-  pub answered : link_of a.answer ≡ link
+  pub answered : a.answer ≡ Some link
   pub gone : attempts_of configs (log ++ e ∷ []) n attempt ≡ None
 
 -- a handshake does whose peer came over it
@@ -263,15 +275,15 @@ module _ (configs : List Config) (log : List Entry) (ev : Event) (n : ℕ) where
       record {
         place = g.place;
         key = g.key;
-        link = link_of h.attempt.answer;
+        link = h.link;
         is = g.is;
         by = inl (record {
           attempt = k;
           acts = here;
           a = h.attempt;
           stood = subst (λ j. attempts_of configs log j k ≡ Some h.attempt) g.node h.stood;
-          answered = refl;
-          gone = attempt_ends configs log e n k p (queue.Spawner n) g.key (link_of h.attempt.answer) here (put ∙ ap (λ j. Some (queue.Spawner n, j)) g.is);
+          answered = h.answered;
+          gone = attempt_ends configs log e n k p (queue.Spawner n) g.key h.link here (put ∙ ap (λ j. Some (queue.Spawner n, j)) g.is);
         });
       }
 

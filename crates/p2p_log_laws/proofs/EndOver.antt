@@ -1,5 +1,5 @@
 -- A node has one connection over a link, ever: the link is handed to its spawner once.
-use Rattle.std.proofs.Common.{◌≡◌, ℕ, suc, ◌<◌, ◌≤◌, true, false, List, [], ◌∷◌, ◌++◌, length, take, drop, Option, Some, None, ◌⊎◌, inl, inr, refl, ap, sym, subst, ◌∙◌, arith, take-append-drop, eqb-true}
+use Rattle.std.proofs.Common.{◌≡◌, ℕ, suc, ◌<◌, ◌≤◌, true, false, List, [], ◌∷◌, ◌++◌, length, take, drop, Some, None, ◌⊎◌, inl, inr, refl, ap, sym, subst, ◌∙◌, arith, take-append-drop, eqb-true}
 use Rattle.std.specs.Prelude.{◌==◌, slice_get}
 use Rattle.std.proofs.lemmas.Bool.{and_parts, cases_lt, false≢true}
 use Rattle.std.proofs.lemmas.List.{length-take-le}
@@ -17,7 +17,7 @@ use Rattle.p2p_log.specs.declared.event.Event.{Event}
 use Rattle.p2p_log.specs.Lines.{name_of, live, line, stands_in}
 use Rattle.p2p_log.proofs.Each.{Has, Each-has, Has-of_kept}
 use Rattle.p2p_log.proofs.Sending.{get_longer}
-use Rattle.p2p_log_rules.specs.Attempting.{Attempt, attempts_of, link_of}
+use Rattle.p2p_log_rules.specs.Attempting.{Attempt, attempts_of}
 use Rattle.p2p_log_rules.specs.Effect.{effect}
 use Rattle.p2p_log_rules.specs.Facts.{key_at}
 use Rattle.p2p_log_rules.specs.Handshakes.{came_over, is_handshaking}
@@ -120,7 +120,6 @@ module _ (configs : List Config) (script : List Event) (log : List Entry) (lawfu
     pub address : SocketAddr
     pub node : ℕ
     pub acts : entry.event.act ≡ act.Connect attempt address node n
-    pub later : link ≡ 0 → ⊥
 
   same_arrival : (a b : SocketAddr) (c d : Key) (k l : ℕ) → item.Arrival a c k ≡ item.Arrival b d l → k ≡ l
   same_arrival a b c d k l is = cc
@@ -150,16 +149,8 @@ module _ (configs : List Config) (script : List Event) (log : List Entry) (lawfu
           address = a.address;
           node = a.from;
           acts = ap (λ (d : Entry). d.event.act) due.1 ∙ (effect_act before due.0 ∙ a.acts);
-          later = λ none. no_entry before a.from a.attempt a.dialed (sym same ∙ none) a.stood;
         },
       )
-    where
-      no_entry : (l : List Entry) (n k : ℕ) (a : Attempt) → length l ≡ 0 → attempts_of configs l n k ≡ Some a → ⊥
-      no_entry l n k a none is = let late : attempts_of configs l n k ≡ None = attempts_of-late configs l n k (omega (arith, none)) in cc
-
-  -- a link is no link of the first entry
-  links_later : (link from to : ℕ) → Links log link from to → link ≡ 0 → ⊥
-  links_later link from to l = (put_arrival to link 1 l.entry l.address l.key link l.at l.arrives).2.later
 
   -- the handshake of a name took the arrival over its link
   record IsHeard (n h link : ℕ) : Type 0 where
@@ -186,19 +177,14 @@ module _ (configs : List Config) (script : List Event) (log : List Entry) (lawfu
 
   -- ---- the attempt that a link answered
 
-  answered : (n k s link : ℕ) (a : Attempt) → attempts_of configs (take s log) n k ≡ Some a → link_of a.answer ≡ link → (link ≡ 0 → ⊥)
+  answered : (n k s link : ℕ) (a : Attempt) → attempts_of configs (take s log) n k ≡ Some a → a.answer ≡ Some link
       → (e : Entry) × (slice_get log link ≡ Some e) × (answers_attempt n k e.event.act ≡ true)
-  answered n k s link a stood is later = by a.answer refl is
-    where
-      by : (o : Option ℕ) → a.answer ≡ o → link_of o ≡ link → (e : Entry) × (slice_get log link ≡ Some e) × (answers_attempt n k e.event.act ≡ true)
-      by None answer at = absurd (later (sym at))
-      by (Some l) answer at =
-          let own = answers_own configs (take s log) n k l a stood answer in (
-            own.0,
-            subst (λ i. slice_get log i ≡ Some own.0) at
-                (subst (λ (es : List Entry). slice_get es l ≡ Some own.0) (take-append-drop s log) (get_longer (take s log) (drop s log) l own.0 own.1)),
-            own.2,
-          )
+  answered n k s link a stood answer =
+      let own = answers_own configs (take s log) n k link a stood answer in (
+        own.0,
+        subst (λ (es : List Entry). slice_get es link ≡ Some own.0) (take-append-drop s log) (get_longer (take s log) (drop s log) link own.0 own.1),
+        own.2,
+      )
 
   -- ---- it is handed on once
 
@@ -244,11 +230,11 @@ module _ (configs : List Config) (script : List Event) (log : List Entry) (lawfu
       in
       false≢true (sym none.1 ∙ there)
 
-  module _ (n link : ℕ) (later : link ≡ 0 → ⊥) (s t : ℕ) (e f : Entry) (at : slice_get log s ≡ Some e) (also : slice_get log t ≡ Some f) where
+  module _ (n link : ℕ) (s t : ℕ) (e f : Entry) (at : slice_get log s ≡ Some e) (also : slice_get log t ≡ Some f) where
     both_dialed : IsDialedOn configs (take s log) n link e → IsDialedOn configs (take t log) n link f → s ≡ t
     both_dialed d g =
-        let first = answered n d.attempt s link d.a d.stood d.answered later in
-        let second = answered n g.attempt t link g.a g.stood g.answered later in
+        let first = answered n d.attempt s link d.a d.stood d.answered in
+        let second = answered n g.attempt t link g.a g.stood g.answered in
         let entries : first.0 ≡ second.0 = same_Some first.0 second.0 (sym first.1 ∙ second.1) in
         let attempts : d.attempt ≡ g.attempt =
         one_answered n d.attempt g.attempt second.0.event.act (subst (λ (x : Entry). answers_attempt n d.attempt x.event.act ≡ true) entries first.2) second.2
@@ -271,7 +257,7 @@ module _ (configs : List Config) (script : List Event) (log : List Entry) (lawfu
     -- a node that dialed itself is with itself, and so has no connection
     both_ways : (key : Key) → LeadsTo configs log n key link → IsDialedOn configs (take s log) n link e → IsHeardOn (take t log) n link f → key ≡ key_at configs n
     both_ways key leads d g =
-        let dial = answered n d.attempt s link d.a d.stood d.answered later in
+        let dial = answered n d.attempt s link d.a d.stood d.answered in
         let of : IsLinkOf n link = (heard n g.handshake t link g.runs g.came).of in
         let entries : of.entry ≡ dial.0 = same_Some of.entry dial.0 (sym of.at ∙ dial.1) in
         let own : of.node ≡ n = dialer n d.attempt of.attempt of.address of.node (subst (λ a. answers_attempt n d.attempt a ≡ true) (sym (ap (λ (x : Entry). x.event.act) entries) ∙ of.acts) dial.2) in
@@ -291,18 +277,11 @@ module _ (configs : List Config) (script : List Event) (log : List Entry) (lawfu
         by of own (m, inl dialed, is) = is ∙ ap (key_at configs) (peer of own n m dialed).1
         by of own (m, inr listened, is) = is ∙ ap (key_at configs) (peer of own m n listened).0
 
-  leads_later : (n : ℕ) (key : Key) (link : ℕ) → LeadsTo configs log n key link → link ≡ 0 → ⊥
-  leads_later n key link (m, inl dialed, is) = links_later link n m dialed
-  leads_later n key link (m, inr listened, is) = links_later link m n listened
-
   pub one_over : (n c d : ℕ) (a b : Spawned) → connections_of log n c ≡ Some a → connections_of log n d ≡ Some b → a.link ≡ b.link → c ≡ d
   one_over n c d a b first second same = by x.by y.by
     where
       leads : LeadsTo configs log n a.key b.link
       leads = subst (LeadsTo configs log n a.key) same (connections_lead configs script log lawful n c a first)
-
-      later : b.link ≡ 0 → ⊥
-      later = leads_later n a.key b.link leads
 
       x : IsHanded n c b.link
       x = subst (IsHanded n c) same (handed n c a first)
@@ -315,7 +294,7 @@ module _ (configs : List Config) (script : List Event) (log : List Entry) (lawfu
 
       by : IsDialedOn configs (take x.from log) n b.link x.entry ⊎ IsHeardOn (take x.from log) n b.link x.entry
           → IsDialedOn configs (take y.from log) n b.link y.entry ⊎ IsHeardOn (take y.from log) n b.link y.entry → c ≡ d
-      by (inl u) (inl v) = from_one (both_dialed n b.link later x.from y.from x.entry y.entry x.at y.at u v)
-      by (inr u) (inr v) = from_one (both_heard n b.link later x.from y.from x.entry y.entry x.at y.at u v)
-      by (inl u) (inr v) = absurd (not_own configs script log lawful n c a first (both_ways n b.link later x.from y.from x.entry y.entry x.at y.at a.key leads u v))
-      by (inr u) (inl v) = absurd (not_own configs script log lawful n c a first (both_ways n b.link later y.from x.from y.entry x.entry y.at x.at a.key leads v u))
+      by (inl u) (inl v) = from_one (both_dialed n b.link x.from y.from x.entry y.entry x.at y.at u v)
+      by (inr u) (inr v) = from_one (both_heard n b.link x.from y.from x.entry y.entry x.at y.at u v)
+      by (inl u) (inr v) = absurd (not_own configs script log lawful n c a first (both_ways n b.link x.from y.from x.entry y.entry x.at y.at a.key leads u v))
+      by (inr u) (inl v) = absurd (not_own configs script log lawful n c a first (both_ways n b.link y.from x.from y.entry x.entry y.at x.at a.key leads v u))

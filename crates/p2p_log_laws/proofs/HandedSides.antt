@@ -15,7 +15,7 @@ use Rattle.p2p_log.specs.declared.event.Event.{Event}
 use Rattle.p2p_log.specs.Lines.{name_of, stays, live, line}
 use Rattle.p2p_log.proofs.Names.{AreApart-live_from}
 use Rattle.p2p_log.proofs.Taken.{sum_by-first}
-use Rattle.p2p_log_rules.specs.Attempting.{Attempt, attempts_of, link_of}
+use Rattle.p2p_log_rules.specs.Attempting.{Attempt, attempts_of}
 use Rattle.p2p_log_rules.specs.Dialed.{dialer_of}
 use Rattle.p2p_log_rules.specs.Facts.{key_at}
 use Rattle.p2p_log_rules.specs.Handshakes.{Handshake, handshake_at, is_handshaking}
@@ -35,7 +35,8 @@ use Rattle.p2p_log_laws.proofs.Turns.{one_holder}
 -- the node of an attempt that is told that keys were exchanged dialed its link
 abbrev pub AttemptDialed : List Config → List Entry → ℕ → ℕ → Type 0
 AttemptDialed configs log n k =
-    (a : Attempt) (z : Envelope) (zs : List Envelope) → attempts_of configs log n k ≡ Some a → line log (queue.Attempt n k) ≡ z ∷ zs → z.item ≡ item.Finished true → dialer_of log (link_of a.answer) ≡ Some n
+    (a : Attempt) (link : ℕ) (z : Envelope) (zs : List Envelope) → attempts_of configs log n k ≡ Some a → a.answer ≡ Some link → line log (queue.Attempt n k) ≡ z ∷ zs → z.item ≡ item.Finished true
+    → dialer_of log link ≡ Some n
 
 -- another node dialed the link of a handshake that is told that its peer is reserved
 abbrev pub HandshakeDialed : List Entry → ℕ → ℕ → Type 0
@@ -48,10 +49,10 @@ module _ (configs : List Config) (script : List Event) (log : List Entry) (lawfu
   led = are_led configs script log lawful
 
   pub attempt_dialed : (k : ℕ) → AttemptDialed configs log n k
-  attempt_dialed k a z zs stands first is =
+  attempt_dialed k a link z zs stands answered first is =
       let says : IsDialed configs log n k = subst (Says configs log (queue.Attempt n k)) is (first_says configs log (queue.Attempt n k) z zs led.say first) in
       let to : IsLinkedTo configs log n a = says.1 a stands in
-      ap (λ o. dialer_of log (link_of o)) to.answer ∙ links_dialer log to.link n to.to to.links
+      ap (dialer_of log) (same_Some link to.link (sym answered ∙ to.answer)) ∙ links_dialer log to.link n to.to to.links
 
   -- ---- a grant that waits for a handshake
 

@@ -20,7 +20,7 @@ use Rattle.p2p_log.specs.Lines.{name_of, line, live, stays}
 use Rattle.p2p_log_rules.specs.declared.row.Half.{Half}
 use Rattle.p2p_log_rules.specs.declared.row.Row.{Row}
 use Rattle.p2p_base.specs.declared.key.Key.{Key}
-use Rattle.p2p_log_rules.specs.Attempting.{Attempt, dial_rules_at, attempts_of, resolved, resolved_row, handed_on_row, link_of, attempt_took_row}
+use Rattle.p2p_log_rules.specs.Attempting.{Attempt, dial_rules_at, attempts_of, resolved, resolved_row, handed_on_row, linked_row, attempt_took_row}
 use Rattle.p2p_log_rules.specs.Closing.{is_closed, refused_by}
 use Rattle.p2p_log_rules.specs.Connections.{live_half, is_begun, is_running}
 use Rattle.p2p_log_rules.specs.Dialing.{Dials, dials_of, due_row, answer_taken_row}
@@ -100,10 +100,14 @@ resolved_serves : (o : Option Attempt) (n : ℕ) (key : Key) (name : ℕ × ℕ)
 resolved_serves None n key name left = refl
 resolved_serves (Some a) n key name left = refl
 
+linked_serves : (n : ℕ) (full : Bool) (key : Key) (o : Option ℕ) (name : ℕ × ℕ) (left : List Envelope) → is_still (linked_row n full key o name left).reply ≡ false
+linked_serves n full key None name left = refl
+linked_serves n full key (Some link) name left = ready_serves n full key link name left
+
 tried_serves : (n : ℕ) (full private : Bool) (seed : ℕ) (a : Attempt) (name : ℕ × ℕ) (i : Item) (left : List Envelope) → is_still (attempt_took_row n full private seed a name i left).reply ≡ false
 tried_serves n full private seed a name (item.Resolved addresses) left = resolved_serves (resolved a.address private addresses seed a) n a.key name left
 tried_serves n full private seed a name item.Linked left = refl
-tried_serves n full private seed a name (item.Finished true) left = ready_serves n full a.key (link_of a.answer) name left
+tried_serves n full private seed a name (item.Finished true) left = linked_serves n full a.key a.answer name left
 tried_serves n full private seed a name (item.Finished false) left = refl
 tried_serves n full private seed a name _ left = refl
 

@@ -137,16 +137,16 @@ handed_on_row n true key link name left = given_up_row n key (name ∷ []) left
 handed_on_row n false key link name left =
     record { reply = reply.Ok; takes = name ∷ []; puts = (queue.Spawner n, item.Spawn key link) ∷ []; ends = left_ends left }
 
--- the link of an attempt whose dial was answered by the event of this name
-abbrev pub link_of : Option ℕ → ℕ
-link_of None = 0
-link_of (Some name) = name
+-- by the answer to its dial, which made the link of its name: without one it ends, too
+abbrev pub linked_row : ℕ → Bool → Key → Option ℕ → ℕ × ℕ → List Envelope → Row
+linked_row n full key None name left = given_up_row n key (name ∷ []) left
+linked_row n full key (Some link) name left = handed_on_row n full key link name left
 
 -- by what it took, and by whether its node's spawner is full
 abbrev pub attempt_took_row : ℕ → Bool → Bool → ℕ → Attempt → ℕ × ℕ → Item → List Envelope → Row
 attempt_took_row n full private seed a name (item.Resolved addresses) left = resolved_row (resolved a.address private addresses seed a) n a.key name left
 attempt_took_row n full private seed a name item.Linked left = taken_row name
-attempt_took_row n full private seed a name (item.Finished true) left = handed_on_row n full a.key (link_of a.answer) name left
+attempt_took_row n full private seed a name (item.Finished true) left = linked_row n full a.key a.answer name left
 attempt_took_row n full private seed a name _ left = given_up_row n a.key (name ∷ []) left
 
 -- the oldest item, or else its deadline

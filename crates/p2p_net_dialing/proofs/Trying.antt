@@ -35,7 +35,7 @@ use Rattle.p2p_log.specs.Lines.{name_of, goes, stays, stands_in, live, line}
 use Rattle.p2p_log.proofs.Queues.{same_queue-refl}
 use Rattle.p2p_log_rules.proofs.Connections.{ends_untold}
 use Rattle.p2p_log_rules.specs.declared.row.Row.{Row}
-use Rattle.p2p_log_rules.specs.Attempting.{Attempt, DialRules, dial_rules_at, drawn_address, dialing, resolved, attempts_of, left_ends, given_up_row, resolved_row, handed_on_row, link_of, attempt_took_row, attempt_turn, attempt_by, attempt_row}
+use Rattle.p2p_log_rules.specs.Attempting.{Attempt, DialRules, dial_rules_at, drawn_address, dialing, resolved, attempts_of, left_ends, given_up_row, resolved_row, handed_on_row, linked_row, attempt_took_row, attempt_turn, attempt_by, attempt_row}
 use Rattle.p2p_log_rules.specs.Tellings.{or_new}
 use Rattle.p2p_log_rules.specs.Told.{took_tells}
 use Rattle.p2p_log_rules.proofs.Attempts.{attempt_told}
@@ -55,7 +55,7 @@ use Rattle.p2p_net_queues.specs.Rows.{item_ends}
 use Rattle.p2p_net_queues.specs.Tables as table
 use Rattle.p2p_net_queues.proofs.Going.{first_left}
 use Rattle.p2p_net_queues.specs.Tables.{AreBut}
-use Rattle.p2p_net_gates.specs.Attempts.{link_at, tried, after_turn, unless_ended, Tries}
+use Rattle.p2p_net_gates.specs.Attempts.{link_at, tried, after_turn, way_after, unless_ended, Tries}
 use Rattle.p2p_net_gates.specs.DialerStands.{gates_at, told_item, attempt_of, AttemptStands, DialerStands}
 use Rattle.p2p_net_gates.specs.declared.attempt.RunningAttempt.{RunningAttempt}
 use Rattle.p2p_net_gates.specs.declared.attempt.Tried.{Tried}
@@ -297,7 +297,7 @@ module _ (configs : List Config) (log : List Entry) (moment seed name n : ℕ) (
 
   -- what a turn makes of it
   abbrev TurnsTo : Turn (Attempting Key) Key → RunningAttempt → Type 0
-  TurnsTo turn w = (steps.tried ≡ tried turn w.answer w.names) × (AreBut name (unless_ended (after_turn turn w)) x.dialing.attempts mid.dialing.attempts × (mid.tracker.mailbox ≡ turn.way))
+  TurnsTo turn w = (steps.tried ≡ tried turn w.answer w.names) × (AreBut name (unless_ended (after_turn turn w)) x.dialing.attempts mid.dialing.attempts × (mid.tracker.mailbox ≡ way_after turn w.answer))
 
   module _ (b : Attempt) (reserved : Metadata Key) (dialed : reserved ≡ metadata.Dialer b.key) (there : table.at x.dialing.attempts name ≡ Some (attempt_of g name reserved b (line log q))) (is : attempts name ≡ Some b) where
     abbrev w : RunningAttempt
@@ -358,13 +358,13 @@ module _ (configs : List Config) (log : List Entry) (moment seed name n : ℕ) (
           row_is h.1.0
 
       -- it ends with its reservation
-      is_ready : (c : Bool) → full ≡ c → dialer_of log (link_of b.answer) ≡ Some n → attempt_row configs log name n moment seed ≡ handed_on_row n c b.key (link_of b.answer) (name_of z) zs
-          → HandsOn (Some (link_of b.answer, reserved)) (length log) n None mid y ended_row r → AreBut name None x.dialing.attempts mid.dialing.attempts → mid.tracker.mailbox ≡ m → Done
-      is_ready true is_full dial row_is hands but same =
-          gives_up (connection_refused (length log) n m mid y ended_row r same (link_of b.answer) reserved hands (refuses_is ∙ is_full)) row_is but
-      is_ready false room dial row_is hands but same =
-          turned ended_row (connection (link_of b.answer) reserved) m [] None None refl (connection_asked (length log) n m mid y ended_row r same (link_of b.answer) reserved hands (refuses_is ∙ room))
-          (row_is ∙ ap (λ key. handed_on_row n false key (link_of b.answer) (name_of z) zs) (sym peer)) refl tt (subst (IsReservedOver log n (link_of b.answer)) (sym dialed) dial) but
+      is_ready : (link : ℕ) (c : Bool) → full ≡ c → dialer_of log link ≡ Some n → attempt_row configs log name n moment seed ≡ handed_on_row n c b.key link (name_of z) zs
+          → HandsOn (Some (link, reserved)) (length log) n None mid y ended_row r → AreBut name None x.dialing.attempts mid.dialing.attempts → mid.tracker.mailbox ≡ m → Done
+      is_ready link true is_full dial row_is hands but same =
+          gives_up (connection_refused (length log) n m mid y ended_row r same link reserved hands (refuses_is ∙ is_full)) row_is but
+      is_ready link false room dial row_is hands but same =
+          turned ended_row (connection link reserved) m [] None None refl (connection_asked (length log) n m mid y ended_row r same link reserved hands (refuses_is ∙ room))
+          (row_is ∙ ap (λ key. handed_on_row n false key link (name_of z) zs) (sym peer)) refl tt (subst (IsReservedOver log n link) (sym dialed) dial) but
           refl (all_gone log q z zs first) refl
 
       -- it goes on
@@ -399,6 +399,24 @@ module _ (configs : List Config) (log : List Entry) (moment seed name n : ℕ) (
         by_address None at_is row_is h =
             by_drawn at_is (drawn_address private addresses seed) refl row_is (subst (λ c. TurnsTo (turns.dials (turns.chosen (turns.may_be_dialed c addresses) seed) left m) before) (private_is configs n) h)
 
+      -- its keys were exchanged, over the link that answered its dial
+      abbrev exchanged : Turn (Attempting Key) Key
+      exchanged = turns.item_turn (told_item (item.Finished true)) left m moment seed
+
+      abbrev Hands : Option ℕ → Type 0
+      Hands answer = (steps.tried ≡ tried exchanged answer before.names) × (AreBut name (unless_ended (after_turn exchanged before)) x.dialing.attempts mid.dialing.attempts × (mid.tracker.mailbox ≡ way_after exchanged answer))
+
+      by_answer : z.item ≡ item.Finished true → (answer : Option ℕ) → b.answer ≡ answer → attempt_row configs log name n moment seed ≡ linked_row n full b.key answer (name_of z) zs → Hands answer → Done
+      by_answer item_is None answered row_is h =
+          gives_up
+          (gave_back ended_row reserved (h.0 ∙ ap (λ c. record { row = record { reply = reply.Ok; takes = name_of z ∷ []; puts = []; ends = c }; released = Some (peer_of reserved); ready = None }) (ends_are zs)) h.1.1)
+          row_is h.1.0
+      by_answer item_is (Some link) answered row_is h =
+          is_ready link full refl (dials b link z zs is answered first item_is) row_is
+          (hands_of (record { row = ended_row; released = None; ready = Some (link, reserved) })
+          (h.0 ∙ ap (λ c. record { row = record { reply = reply.Ok; takes = name_of z ∷ []; puts = []; ends = c }; released = None; ready = Some (link, reserved) }) (ends_are zs)))
+          h.1.0 h.1.1
+
       by_item : (i : Item) → z.item ≡ i → attempt_row configs log name n moment seed ≡ attempt_took_row n full private seed b (name_of z) i zs → TurnsTo (turns.item_turn (told_item i) left m moment seed) before → Done
       by_item (item.Resolved addresses) item_is row_is h = by_address addresses item_is b.address refl row_is h
       by_item item.Linked item_is row_is h =
@@ -408,11 +426,7 @@ module _ (configs : List Config) (log : List Entry) (moment seed name n : ℕ) (
           -- once it is linked, it waits no longer than for the keys to be exchanged
           until : ℕ → Attempt
           until t = record b { deadline = min b.deadline (moment + t) }
-      by_item (item.Finished true) item_is row_is h =
-          is_ready full refl (dials b z zs is first item_is) row_is
-          (hands_of (record { row = ended_row; released = None; ready = Some (link_of b.answer, reserved) })
-          (h.0 ∙ ap (λ c. record { row = record { reply = reply.Ok; takes = name_of z ∷ []; puts = []; ends = c }; released = None; ready = Some (link_of b.answer, reserved) }) (ends_are zs)))
-          h.1.0 h.1.1
+      by_item (item.Finished true) item_is row_is h = by_answer item_is b.answer refl row_is h
       by_item (item.Finished false) item_is row_is h = ends row_is h
       by_item _ item_is row_is h = ends row_is h
 

@@ -7,7 +7,9 @@ use Rattle.p2p_address.specs.declared.peer.Ingress.{Ingress}
 use Rattle.p2p_address.specs.declared.peer.Ingress.TheVariants as ingress
 use Rattle.p2p_tracker_directory.specs.Reserved.{peer_of}
 use Rattle.p2p_tracker_directory.specs.declared.metadata.Metadata.{Metadata}
+use Rattle.p2p_tracker_mailbox.specs.Mailboxes.{with_message_in}
 use Rattle.p2p_tracker_mailbox.specs.declared.mailbox.Mailbox.{Mailbox}
+use Rattle.p2p_tracker_mailbox.specs.declared.message.Message.TheVariants as message
 use Rattle.p2p_gates.specs.AttemptTurns.{with_item, attempt_turn}
 use Rattle.p2p_gates.specs.Attempting.{Attempting}
 use Rattle.p2p_gates.specs.Stepping.{Turn}
@@ -27,7 +29,7 @@ use Rattle.p2p_log.specs.declared.item.Item.TheVariants as item
 use Rattle.p2p_log.specs.declared.end.End.{End}
 use Rattle.p2p_log.specs.declared.entry.Reply.TheVariants as reply
 use Rattle.p2p_log_rules.specs.declared.row.Row.{Row}
-use Rattle.p2p_log_rules.specs.Attempting.{link_of, resolve_by, dial_answered_row}
+use Rattle.p2p_log_rules.specs.Attempting.{resolve_by, dial_answered_row}
 use Rattle.p2p_log_rules.specs.Rows.{only}
 use Rattle.p2p_net_queues.specs.Rows.{item_ends}
 use Rattle.p2p_net_queues.specs.Tables.{AreBut}
@@ -100,22 +102,37 @@ abbrev pub released_key : Option (Put Key) → Option Key
 released_key (Some (put.Release m)) = Some (peer_of m)
 released_key _ = None
 
--- the connection that is to be made over this link, where a step ended with its reservation
-abbrev pub ready_of : Outcome Key → ℕ → Option (ℕ × Metadata Key)
-ready_of (outcome.Ready m) link = Some (link, m)
-ready_of _ link = None
+-- where a step ended with its reservation: the connection that is to be made over the link that answered its dial, beside this key, whose
+-- reservation was given back; without such a link it is given back, too
+abbrev pub handed : Outcome Key → Option Key → Option ℕ → Option Key × Option (ℕ × Metadata Key)
+handed (outcome.Ready m) key None = (Some (peer_of m), None)
+handed (outcome.Ready m) key (Some link) = (key, Some (link, m))
+handed _ key answer = (key, None)
+
+-- in the mailbox of its tracker
+abbrev pub handed_way : Outcome Key → Option ℕ → Mailbox Key → Mailbox Key
+handed_way (outcome.Ready m) None way = with_message_in way (message.Release m)
+handed_way _ answer way = way
 
 -- what it did, by what its actor did, and by the event that answered its dial
 abbrev pub tried_by : Stepped Key → Attempting Key → Option ℕ → List (ℕ × ℕ) → Tried
 tried_by stepped.Idle a answer names = record { row = only reply.Idle; released = None; ready = None }
 tried_by (stepped.Served took p left o) a answer names = record {
   row = record { reply = reply.Ok; takes = (took_names took names).0; puts = []; ends = (ended a (took_names took names).1).0 };
-  released = released_key p;
-  ready = ready_of o (link_of answer);
+  released = (handed o (released_key p) answer).0;
+  ready = (handed o (released_key p) answer).1;
 }
 
 abbrev pub tried : Turn (Attempting Key) Key → Option ℕ → List (ℕ × ℕ) → Tried
 tried turn answer names = tried_by turn.stepped turn.actor answer names
+
+abbrev pub way_by : Stepped Key → Option ℕ → Mailbox Key → Mailbox Key
+way_by stepped.Idle answer way = way
+way_by (stepped.Served took p left o) answer way = handed_way o answer way
+
+-- what waits in its tracker's mailbox then
+abbrev pub way_after : Turn (Attempting Key) Key → Option ℕ → Mailbox Key
+way_after turn answer = way_by turn.stepped answer turn.way
 
 abbrev pub names_by : Stepped Key → Attempting Key → List (ℕ × ℕ) → List (ℕ × ℕ)
 names_by stepped.Idle a names = names
@@ -136,7 +153,7 @@ abbrev pub Tries : Option RunningAttempt → ℕ → ℕ → ℕ → List (ℕ �
 Tries None name at seed old new way after t = (t ≡ record { row = only reply.Gone; released = None; ready = None }) × (AreBut name None old new × (after ≡ way))
 Tries (Some a) name at seed old new way after t =
     let turn = attempt_turn a.actor way at seed in
-    (t ≡ tried turn a.answer a.names) × (AreBut name (unless_ended (after_turn turn a)) old new × (after ≡ turn.way))
+    (t ≡ tried turn a.answer a.names) × (AreBut name (unless_ended (after_turn turn a)) old new × (after ≡ way_after turn a.answer))
 
 -- what it is told comes to
 abbrev pub Resolves : Option RunningAttempt → ℕ → ℕ → ℕ → List SocketAddr → List (ℕ × RunningAttempt) → List (ℕ × RunningAttempt) → Row → Type 0

@@ -1,12 +1,15 @@
 //! `RunningAttempt`, an attempt of a node's dialer.
 ghost use Rattle.std.specs.Prelude.{◌≡◌, ◌++◌, ◌∷◌, [], IfOk, OnOk, is_some, length, cond, Some, None};
 ghost use Rattle.p2p_log.specs.declared.queue.Queue.TheVariants as queue;
-ghost use Rattle.p2p_log_rules.specs.Attempting.{link_item, link_of, resolve_by, dial_answered_row};
+ghost use Rattle.p2p_log_rules.specs.Attempting.{link_item, resolve_by, dial_answered_row};
 ghost use Rattle.p2p_gates.specs.AttemptTurns.{attempt_turn};
-ghost use Rattle.p2p_net_gates.specs.Attempts.{is_name, running, took_names, told_under, told_in, link_told, resolved, answered, released_key, ready_of, ended, tried, after_turn};
+ghost use Rattle.p2p_tracker_directory.specs.Reserved.{peer_of};
+ghost use Rattle.p2p_tracker_mailbox.specs.Mailboxes.{with_message_in};
+ghost use Rattle.p2p_tracker_mailbox.specs.declared.message.Message.TheVariants as message;
+ghost use Rattle.p2p_net_gates.specs.Attempts.{is_name, running, took_names, told_under, told_in, link_told, resolved, answered, released_key, handed, handed_way, ended, tried, after_turn, way_after};
 
 use p2p_address::{Ingress, SocketAddr};
-use p2p_base::{Key, List};
+use p2p_base::{Key, List, NoRoom};
 use p2p_gates::{Attempt, AttemptItem, Input, Outcome, Put, Stepped};
 use p2p_log::{Item, Queue, Reply};
 use p2p_log_rules::Row;
@@ -61,24 +64,36 @@ fn released(put: Option<Put<Key>>) -> Option<Key>
     }
 }
 
-/// The link of an attempt whose dial was answered by this event.
-fn link_of(answer: Option<u64>) -> u64
-    ensures { result ≡ link_of answer }
+/// Gives a reservation back to the tracker. Its key is the answer.
+fn give_back(reservation: Reservation<Key>, way: &mut Mailbox<Key>) -> Result<Key, AllocError>
+    ensures key { IfOk result (λ k. k ≡ peer_of reservation) }
+    ensures way { OnOk result (way.new ≡ with_message_in way.old (message.Release reservation)) }
 {
-    match answer {
-        None => 0,
-        Some(name) => name,
+    let key = *reservation.metadata().public_key();
+    match way.release(reservation) {
+        Ok(_) => Ok(key),
+        Err(NoRoom(_)) => Err(AllocError),
     }
 }
 
-/// The connection that is to be made over this link, where a step ended with its reservation.
-fn ready(outcome: Outcome<Key>, link: u64) -> Option<(u64, Reservation<Key>)>
-    ensures { result ≡ ready_of outcome link }
+/// The connection that is to be made over the link that answered its dial, where a step ended with its reservation. Without such
+/// a link the reservation is given back, and its key is the answer in place of `released`.
+fn hand(
+    outcome: Outcome<Key>,
+    released: Option<Key>,
+    answer: Option<u64>,
+    way: &mut Mailbox<Key>,
+) -> Result<(Option<Key>, Option<(u64, Reservation<Key>)>), AllocError>
+    ensures handed { IfOk result (λ h. h ≡ handed outcome released answer) }
+    ensures way { OnOk result (way.new ≡ handed_way outcome answer way.old) }
 {
     let Outcome::Ready(reservation) = outcome else {
-        return None;
+        return Ok((released, None));
     };
-    Some((link, reservation))
+    let Some(link) = answer else {
+        return Ok((Some(give_back(reservation, way)?), None));
+    };
+    Ok((released, Some((link, reservation))))
 }
 
 /// The link of this name, where there is one, or else the one of before.
@@ -153,7 +168,7 @@ impl RunningAttempt {
         ensures tried { IfOk result (λ t.
             t ≡ tried (attempt_turn self.old.actor way.old at seed) self.old.answer self.old.names) }
         ensures after { OnOk result (self.new ≡ after_turn (attempt_turn self.old.actor way.old at seed) self.old) }
-        ensures way { OnOk result (way.new ≡ (attempt_turn self.old.actor way.old at seed).way) }
+        ensures way { OnOk result (way.new ≡ way_after (attempt_turn self.old.actor way.old at seed) self.old.answer) }
     {
         match self.actor.step(way, at, seed)? {
             Stepped::Idle => Ok(Tried {
@@ -170,10 +185,11 @@ impl RunningAttempt {
                 let mut row = only(alloc, Reply::Ok);
                 self.take_name(took, &mut row)?;
                 self.end_names(alloc, &mut row)?;
+                let (gave_back, ready) = hand(outcome, released(put), self.answer, way)?;
                 Ok(Tried {
                     row,
-                    released: released(put),
-                    ready: ready(outcome, link_of(self.answer)),
+                    released: gave_back,
+                    ready,
                 })
             }
         }
