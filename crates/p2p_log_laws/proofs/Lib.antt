@@ -110,6 +110,7 @@ pub mod ReceiverShape
 pub mod RegisteredOnce
 pub mod Releasing
 pub mod Reserving
+pub mod Resting
 pub mod RouterShape
 pub mod Routing
 pub mod Saying
