@@ -23,6 +23,7 @@ use Rattle.p2p_log_laws.proofs.Ledger.{Told-end}
 use Rattle.p2p_log_laws.proofs.Listed.{lists_are_current}
 use Rattle.p2p_log_laws.proofs.Living.{unended_late, unbegun_late}
 use Rattle.p2p_log_laws.proofs.OneConnection.{connections_are_one}
+use Rattle.p2p_log_laws.proofs.Resting.{handshaking_lasts, attempt_lasts}
 use Rattle.p2p_net_links.specs.Stands.{LinksStand}
 use Rattle.p2p_net_links.specs.declared.links.Links.{Links}
 use Rattle.p2p_net_tracker.specs.Stands.{AsksRun}
@@ -85,7 +86,7 @@ node_performs configs log moment seed (act.SendStep conn n) x y l links r s t la
 node_performs configs log moment seed (act.RecvStep conn n) x y l links r s t lawful valid late one d = recv_step_performs configs log moment seed conn n x y l links r s t late (running_heard configs (events_of log) log lawful n conn) (Told-end configs (events_of log) log lawful).standing.fitting d
 node_performs configs log moment seed (act.Recv c n) x y l links r s t lawful valid late one d = read_performs configs log moment seed n c x y l links r s t d.0 d.1
 node_performs configs log moment seed (act.Close c n) x y l links r s t lawful valid late one d = close_performs configs log moment seed n c x y l links r s t d.0 d.1
-node_performs configs log moment seed (act.Ask what n) x y l links r s t lawful valid late one d = ask_performs configs log moment seed n what x y l links r s t d.0 d.1
+node_performs configs log moment seed (act.Ask what n) x y l links r s t lawful valid late one d = ask_performs configs log moment seed n what x y l links r s t d.0.0 d.0.1 d.1
 node_performs configs log moment seed (act.Answer e) x y l links r s t lawful valid late one d = answer_performs configs log moment seed e x y l links r s t valid d.0.0 d.0.1 d.1
 node_performs configs log moment seed (act.Next e) x y l links r s t lawful valid late one d = next_performs configs log moment seed e x y l links r s t valid d.0.0 d.0.1 d.1
 node_performs configs log moment seed (act.Tracker n) x y l links r s t lawful valid late one d = tracker_performs configs log moment seed n x y l links r s t (asks_run configs log n lawful) d.0 d.1
@@ -93,8 +94,8 @@ node_performs configs log moment seed (act.Spawner n) x y l links r s t lawful v
     (unbegun_late configs (events_of log) log lawful n (length log) (no_more (length log))) d.0 d.1
 node_performs configs log moment seed (act.Dialer n) x y l links r s t lawful valid late one d = dialer_performs configs log moment seed n x y l links r s t d.0 d.1
 node_performs configs log moment seed (act.Listener n) x y l links r s t lawful valid late one d = listener_performs configs log moment seed n x y l links r s t late d
-node_performs configs log moment seed (act.Handshake e n) x y l links r s t lawful valid late one d = handshake_performs configs log moment seed e n x y l links r s t (handshake_dialed configs (events_of log) log lawful n e) d
-node_performs configs log moment seed (act.Attempt e n) x y l links r s t lawful valid late one d = attempt_performs configs log moment seed e n x y l links r s t (attempt_dialed configs (events_of log) log lawful n e) d
+node_performs configs log moment seed (act.Handshake e n) x y l links r s t lawful valid late one d = handshake_performs configs log moment seed e n x y l links r s t (handshake_dialed configs (events_of log) log lawful n e) (handshaking_lasts configs (events_of log) log lawful n e) d
+node_performs configs log moment seed (act.Attempt e n) x y l links r s t lawful valid late one d = attempt_performs configs log moment seed e n x y l links r s t (attempt_dialed configs (events_of log) log lawful n e) (attempt_lasts configs (events_of log) log lawful n e) d
 node_performs configs log moment seed (act.Resolve addresses e n) x y l links r s t lawful valid late one d = resolve_performs configs log moment seed addresses e n x y l links r s t d.0.0 d.0.1 d.1
 node_performs configs log moment seed (act.Refuse e n) x y l links r s t lawful valid late one d = refuse_performs configs log moment seed e n x y l links r s t d.0.0 d.0.1 d.1
 node_performs configs log moment seed (act.Connect e from n m) x y l links r s t lawful valid late one d = cc

@@ -8,6 +8,7 @@ use Rattle.p2p_log_rules.specs.Effect.{only}
 use Rattle.p2p_net_queues.specs.Tables as table
 use Rattle.p2p_net_links.specs.declared.links.Links.{Links}
 use Rattle.p2p_net_gates.specs.Attempts.{Resolves, AnswersDial}
+use Rattle.p2p_net_tracker.specs.Asking.{ask_answer, after_asking}
 use Rattle.p2p_net_tracker.specs.Reading.{Answers, Continues}
 use Rattle.p2p_net_tracker.specs.declared.tracker.Tracker.{Tracker}
 use Rattle.p2p_net_node.specs.Staying.{Stays, Tracks, TellsAttempt}
@@ -17,7 +18,7 @@ use Rattle.p2p_net_calls.specs.Offering.{Sends, Checks, SendsChecked}
 use Rattle.p2p_net_connecting.specs.Receiving.{RecvSteps}
 use Rattle.p2p_net_node.specs.declared.node.Node.{Node}
 use Rattle.p2p_net_calls.specs.Stopping.{Stops}
-use Rattle.p2p_net_calls.specs.Calls.{Registers, Starts, Reads, Closes, Asks}
+use Rattle.p2p_net_calls.specs.Calls.{Registers, Starts, Reads, Closes}
 use Rattle.p2p_net_connecting.specs.Steps.{Routes, TrackerStepsBy, SpawnerStepsBy}
 use Rattle.p2p_net_dialing.specs.Dialing.{DialerStepsBy, ListenerStepsBy, HandshakeSteps, AttemptSteps}
 
@@ -37,9 +38,9 @@ NodeDoes k n at seed (act.Close c m) old new l links r = Closes c old new r × (
 NodeDoes k n at seed (act.Connect e from m to) old new l links r = Stays old new r (only reply.Idle) × (links ≡ l)
 NodeDoes k n at seed (act.Finish link ok) old new l links r = Stays old new r (only reply.Idle) × (links ≡ l)
 NodeDoes k n at seed (act.Cut link) old new l links r = Stays old new r (only reply.Idle) × (links ≡ l)
-NodeDoes k n at seed (act.Ask what m) old new l links r = Asks n k what old new r × (links ≡ l)
-NodeDoes k n at seed (act.Answer e) old new l links r = (Answers old.stopped n e old.tracker new.tracker r × Tracks new.tracker old new) × (links ≡ l)
-NodeDoes k n at seed (act.Next e) old new l links r = (Continues old.stopped n e old.tracker new.tracker r × Tracks new.tracker old new) × (links ≡ l)
+NodeDoes k n at seed (act.Ask what m) old new l links r = ((r ≡ ask_answer old.tracker n k what) × Tracks (after_asking old.tracker k what) old new) × (links ≡ l)
+NodeDoes k n at seed (act.Answer e) old new l links r = (Answers n e old.tracker new.tracker r × Tracks new.tracker old new) × (links ≡ l)
+NodeDoes k n at seed (act.Next e) old new l links r = (Continues n e old.tracker new.tracker r × Tracks new.tracker old new) × (links ≡ l)
 NodeDoes k n at seed (act.Tracker m) old new l links r = TrackerStepsBy (is_node_up old) k n at seed old new r × (links ≡ l)
 NodeDoes k n at seed (act.Dialer m) old new l links r = DialerStepsBy (is_node_up old) k n at seed old new r × (links ≡ l)
 NodeDoes k n at seed (act.Listener m) old new l links r = ListenerStepsBy (is_node_up old) k n at old new l links r

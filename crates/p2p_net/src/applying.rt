@@ -9,7 +9,7 @@ use crate::error::NodeError;
 use p2p_base::List;
 use p2p_log::{Act, Entry, Event, Reply};
 use p2p_log_rules::Row;
-use p2p_net_calls::{ask, check, close, read, register, send, send_checked, start, stop};
+use p2p_net_calls::{check, close, read, register, send, send_checked, start, stop};
 use p2p_net_connecting::{recv_step, route, send_step, spawn_step, track_step};
 use p2p_net_dialing::{attempt_step, dial_step, handshake_step, listen_step};
 use p2p_net_links::Links;
@@ -128,9 +128,9 @@ fn act_at(node: &mut Node, turn: Turn, links: &mut Links, event: &Event) -> Resu
         Act::Connect { .. } => Ok(only(turn.alloc, Reply::Idle)),
         Act::Finish { .. } => Ok(only(turn.alloc, Reply::Idle)),
         Act::Cut { .. } => Ok(only(turn.alloc, Reply::Idle)),
-        Act::Ask { asked, .. } => Ok(ask(node, turn, asked)?),
-        Act::Answer { question } => Ok(node.tracker.answer(turn, *question, node.stopped)?),
-        Act::Next { question } => Ok(node.tracker.next(turn, *question, node.stopped)?),
+        Act::Ask { asked, .. } => Ok(node.tracker.ask(turn, asked)?),
+        Act::Answer { question } => Ok(node.tracker.answer(turn, *question)?),
+        Act::Next { question } => Ok(node.tracker.next(turn, *question)?),
         Act::Tracker { .. } => Ok(track_step(node, turn, event.at, event.seed)?),
         Act::Dialer { .. } => Ok(dial_step(node, turn, event.at, event.seed)?),
         Act::Listener { .. } => Ok(listen_step(node, turn, links, event.at)?),

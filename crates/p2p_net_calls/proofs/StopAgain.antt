@@ -152,6 +152,7 @@ module _ (configs : List Config) (log : List Entry) (moment seed : ℕ) (by_star
         no_step = ap (steps_tracker n) acts;
         no_end = ends_none;
         no_question = ap (asks_of n) acts;
+        goes_on = over_after ∙ sym over;
         no_answer = λ d asks. ap (λ b. takes_answer d b e.reply) acts;
         no_late_answer = λ d past. ap (λ b. takes_answer d b e.reply) acts;
         mailbox = stays (queue.Tracker n);

@@ -50,8 +50,9 @@ use Rattle.p2p_net_channels.proofs.Changes.{channels_ended}
 use Rattle.p2p_net_tracker.specs.Heeding.{is_noted}
 use Rattle.p2p_net_tracker.specs.Stands.{TrackerStands}
 use Rattle.p2p_net_tracker.specs.Stopping.{TrackerLeft}
-use Rattle.p2p_net_tracker.specs.Stopping as tracker_stop
+use Rattle.p2p_tracker_mailbox.specs.Mailboxes.{closed_mailbox}
 use Rattle.p2p_net_tracker.specs.declared.tracker.Tracker.{Tracker}
+use Rattle.p2p_net_tracker.proofs.AtDesk.{is_polled, polled_apart}
 use Rattle.p2p_net_tracker.proofs.Stopped.{IsEmptied, stop_leaves, none_waits, tracker_left_kept, tracker_stopped}
 use Rattle.p2p_net_gates.specs.DialerStands.{DialerStands}
 use Rattle.p2p_net_gates.specs.ListenerStands.{ListenerStands}
@@ -141,6 +142,25 @@ module _ (configs : List Config) (log : List Entry) (moment seed : ℕ) (by_star
   untouched : (q : Queue) → OfKinds n (λ p. same_queue p q ≡ false) → line after q ≡ line log q
   untouched q kinds = line-untouched configs log ev q refl refl (any_none q (emptied_at log n) (each_emptied log n (λ p. same_queue p q ≡ false) kinds))
 
+  -- none of those that are emptied is one of those
+  elsewhere : (q : Queue) → is_polled q ≡ true → OfKinds n (λ p. same_queue p q ≡ false)
+  elsewhere q asked = record {
+    router = polled_apart (queue.Router n) q asked refl;
+    tracker = polled_apart (queue.Tracker n) q asked refl;
+    spawner = polled_apart (queue.Spawner n) q asked refl;
+    arrivals = polled_apart (queue.Arrivals n) q asked refl;
+    update = polled_apart (queue.Addresses n) q asked refl;
+    dialer = polled_apart (queue.Dialer n) q asked refl;
+    attempt = λ k. polled_apart (queue.Attempt n k) q asked refl;
+    handshake = λ h. polled_apart (queue.Handshake n h) q asked refl;
+    high = λ k. polled_apart (queue.High n k) q asked refl;
+    low = λ k. polled_apart (queue.Low n k) q asked refl;
+    held = λ k. polled_apart (queue.Held n k) q asked refl;
+    control = λ k. polled_apart (queue.Control n k) q asked refl;
+    ready = λ k. polled_apart (queue.RouterAnswer n k) q asked refl;
+    link = λ l t. polled_apart (queue.Link l t) q asked refl;
+  }
+
   channel_stays : (c : ℕ) → line after (queue.Channel n c) ≡ line log (queue.Channel n c)
   channel_stays c = untouched (queue.Channel n c) (record {
     router = refl;
@@ -158,6 +178,10 @@ module _ (configs : List Config) (log : List Entry) (moment seed : ℕ) (by_star
     ready = λ k. refl;
     link = no_channel n c;
   })
+
+  -- what waits for those who asked the tracker by its oracle stays
+  asked_stays : (q : Queue) → is_polled q ≡ true → line after q ≡ line log q
+  asked_stays q asked = untouched q (elsewhere q asked)
 
   emptied_queue : (q : Queue) → Has (queues_at log n) q → line after q ≡ []
   emptied_queue q has = stop_empties configs log ev n stop q has
@@ -261,7 +285,7 @@ module _ (configs : List Config) (log : List Entry) (moment seed : ℕ) (by_star
   plain w = record w { told = x.tracker.told; ended = x.tracker.ended }
 
   abbrev without_mail : Tracker → Tracker
-  without_mail w = record w { mailbox = tracker_stop.emptied w.mailbox }
+  without_mail w = record w { mailbox = closed_mailbox w.mailbox }
 
   tracker_left_same : plain d.left.tracker ≡ plain d.called.tracker
   tracker_left_same =
@@ -270,7 +294,7 @@ module _ (configs : List Config) (log : List Entry) (moment seed : ℕ) (by_star
       ∙ (ap (λ (z : Node). plain z.tracker) d.attempts_rest
       ∙ (ap (λ (z : Node). plain z.tracker) d.told_rest ∙ (ap (λ (z : Node). plain z.tracker) d.arrivals ∙ ap (λ (z : Node). plain z.tracker) d.messages.rest))))
 
-  tracker_is : plain y.tracker ≡ record x.tracker { mailbox = tracker_stop.emptied x.tracker.mailbox; names = [] }
+  tracker_is : plain y.tracker ≡ record x.tracker { mailbox = closed_mailbox x.tracker.mailbox; names = [] }
   tracker_is =
       ap (λ (z : Node). plain z.tracker) d.closed.rest
       ∙ (ap without_mail tracker_left_same ∙ ap (λ (z : Node). without_mail (plain z.tracker)) d.mailboxes_ended.rest)
@@ -336,7 +360,7 @@ module _ (configs : List Config) (log : List Entry) (moment seed : ℕ) (by_star
   tracker_stands =
       tracker_stopped configs log e n x.tracker y.tracker (s.each place.tracker) tracker_emptied tracker_left
       (stop_leaves configs log e n stop (emptied_queue (queue.Tracker n) (inr (inl refl))) (emptied_queue (queue.Addresses n) (inr (inr (inr (inr (inl refl))))))
-      (emptied_queue (queue.Dialer n) (inr (inr (inr (inr (inr (inl refl))))))) no_handshake_waits)
+      (emptied_queue (queue.Dialer n) (inr (inr (inr (inr (inr (inl refl))))))) no_handshake_waits asked_stays)
       ended
 
   -- ---- its dialer

@@ -1,6 +1,5 @@
 -- What each call of a node comes to, and what it makes of the node. No log: of the router's calls the log is a matter of its own.
 use Rattle.std.specs.Prelude.{◌≡◌, ℕ, ◌+◌, Bool, true, false, slice_get}
-use Rattle.p2p_log.specs.declared.asked.Asked.{Asked}
 use Rattle.p2p_log.specs.declared.entry.Reply.TheVariants as reply
 use Rattle.p2p_log.specs.declared.event.Rate.{Rate}
 use Rattle.p2p_log_rules.specs.declared.row.Row.{Row}
@@ -10,9 +9,7 @@ use Rattle.p2p_flow_connection.specs.Arriving.{arrival_waiting}
 use Rattle.p2p_net_queues.specs.Tables.{waiting}
 use Rattle.p2p_net_channels.specs.Channels.{registered_with, has_reader, none_told, read_told, read_from, closed_row, closed_with}
 use Rattle.p2p_net_gates.specs.Dialing.{started}
-use Rattle.p2p_net_tracker.specs.Asking.{ask_answer, after_asking}
-use Rattle.p2p_net_tracker.specs.Stopping.{ask_stopped_row, after_ask_stopped}
-use Rattle.p2p_net_node.specs.Staying.{Stays, Tracks}
+use Rattle.p2p_net_node.specs.Staying.{Stays}
 use Rattle.p2p_net_node.specs.Requested.{capacity_by}
 use Rattle.p2p_net_node.specs.Routing as routing
 use Rattle.p2p_net_node.specs.declared.node.Node.{Node}
@@ -51,11 +48,3 @@ ClosesOn true c old new r = (r ≡ closed_row (waiting old.channels.waiting c)) 
 
 abbrev pub Closes : ℕ → Node → Node → Row → Type 0
 Closes c old new r = ClosesOn (has_reader old.channels c) c old new r
-
--- by whether the node n has stopped
-abbrev pub AsksBy : Bool → ℕ → ℕ → Asked → Node → Node → Row → Type 0
-AsksBy true n k what old new r = (r ≡ ask_stopped_row old.tracker what) × Tracks (after_ask_stopped old.tracker k what) old new
-AsksBy false n k what old new r = (r ≡ ask_answer old.tracker n k what) × Tracks (after_asking old.tracker k what) old new
-
-abbrev pub Asks : ℕ → ℕ → Asked → Node → Node → Row → Type 0
-Asks n k what old new r = AsksBy old.stopped n k what old new r

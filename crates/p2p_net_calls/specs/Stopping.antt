@@ -7,6 +7,7 @@ use Rattle.std.specs.Ordering.{nat_cmp}
 use Rattle.p2p_base.specs.declared.key.Key.{Key}
 use Rattle.p2p_router.specs.Messenger.{is_bound}
 use Rattle.p2p_gates.specs.Handshaking.{Handshaking}
+use Rattle.p2p_tracker_mailbox.specs.Mailboxes.{closed_mailbox}
 use Rattle.p2p_peer.specs.declared.spawner.message.Message.{Message}
 use Rattle.p2p_peer.specs.declared.spawner.message.Message.TheVariants as asked
 use Rattle.p2p_log.specs.declared.queue.Queue.{Queue}
@@ -38,7 +39,7 @@ use Rattle.p2p_net_router.specs.Resting.{RouterLeft}
 use Rattle.p2p_net_router.specs.declared.router.Router.{Router}
 use Rattle.p2p_net_tracker.specs.Ending.{noted_with}
 use Rattle.p2p_net_tracker.specs.Heeding.{is_noted}
-use Rattle.p2p_net_tracker.specs.Stopping.{TrackerLeft, emptied}
+use Rattle.p2p_net_tracker.specs.Stopping.{TrackerLeft}
 use Rattle.p2p_net_tracker.specs.declared.tracker.Tracker.{Tracker}
 use Rattle.p2p_net_gates.specs.Handshaking.{freed_if}
 use Rattle.p2p_net_gates.specs.Stopping.{DialerLeft, zipped}
@@ -288,7 +289,7 @@ pub record MailboxesEnded (old new : Node) : Type 0 where
 pub record HasClosed (old new : Node) : Type 0 where
   pub rest : new ≡ record old {
     router = new.router;
-    tracker = record old.tracker { mailbox = emptied old.tracker.mailbox };
+    tracker = record old.tracker { mailbox = closed_mailbox old.tracker.mailbox };
     dialing = record old.dialing { actor = None };
     listening = record old.listening { ends = [] };
     channels = with_end old.channels;

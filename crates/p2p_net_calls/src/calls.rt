@@ -1,11 +1,11 @@
-//! The calls of a node: registering a channel, starting, reading, dropping a reader, and asking its tracker.
+//! The calls of a node: registering a channel, starting, reading and dropping a reader.
 ghost use Rattle.std.specs.Prelude.{◌≡◌, ◌+◌, ◌<◌, ◌≤◌, ◌^◌, true, false, IfOk, OnOk, IsTrue};
 ghost use Rattle.p2p_log_rules.specs.Valid.{is_quota};
 ghost use Rattle.p2p_router.specs.Messenger.{is_unbound};
 ghost use Rattle.p2p_net_node.specs.Requested.{capacity_by};
-ghost use Rattle.p2p_net_calls.specs.Calls.{Registers, Starts, Reads, Closes, Asks};
+ghost use Rattle.p2p_net_calls.specs.Calls.{Registers, Starts, Reads, Closes};
 
-use p2p_log::{Asked, Rate, Reply};
+use p2p_log::{Rate, Reply};
 use p2p_log_rules::Row;
 use p2p_net_node::Node;
 use p2p_net_queues::{Turn, only};
@@ -73,15 +73,4 @@ pub fn close(node: &mut Node, turn: Turn, channel: u64) -> Result<Row, AllocErro
     } else {
         Ok(only(turn.alloc, Reply::Gone))
     }
-}
-
-/// Asks the tracker. Where the node has stopped nobody takes the question, and so it is answered.
-pub fn ask(node: &mut Node, turn: Turn, asked: &Asked) -> Result<Row, AllocError>
-    ensures does { IfOk result (λ r. Asks turn.node turn.entry asked.now node.old node.new r) }
-    ensures failed { OnOk result (node.new.failed ≡ node.old.failed) }
-{
-    if node.stopped {
-        return Ok(node.tracker.ask_stopped(turn, asked)?);
-    }
-    Ok(node.tracker.ask(turn, asked)?)
 }

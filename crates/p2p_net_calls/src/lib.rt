@@ -5,6 +5,6 @@ mod calls;
 mod offers;
 mod stopping;
 
-pub use crate::calls::{ask, close, read, register, start};
+pub use crate::calls::{close, read, register, start};
 pub use crate::offers::{check, send, send_checked};
 pub use crate::stopping::stop;

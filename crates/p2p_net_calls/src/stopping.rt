@@ -332,12 +332,13 @@ fn stop_told(node: &mut Node, turn: Turn, row: &mut Row) -> Result<(), AllocErro
     Ok(())
 }
 
-/// A node that was emptied stops: its actors are gone, and it answers for them.
+/// A node that was emptied stops: its actors are gone, the mailbox of its tracker and its channels have ended, and it answers for
+/// the others.
 fn close(node: &mut Node, alloc: Global) -> Result<(), AllocError>
     ensures { OnOk result (HasClosed node.old node.new) }
 {
     node.router.close();
-    node.tracker.stop(alloc)?;
+    node.tracker.stop();
     node.dialing.stop();
     node.listening.forget_ends(alloc);
     node.channels.inbounds.end();

@@ -166,7 +166,7 @@ module _ (configs : List Config) (log : List Entry) (at seed conn n : ℕ) (half
                 (subst (λ (z : Entry). RouterStands configs (log ++ z ∷ []) n y.router) effect_is router_now),
             (
               subst (λ (z : Entry). TrackerStands configs (log ++ z ∷ []) n y.tracker) effect_is
-                  (subst (TrackerStands configs (log ++ e ∷ []) n) (sym (ap (λ (z : Node). z.tracker) d.1.0)) (tracker_begun configs log at seed n conn half.peer x.tracker (s.each place.tracker))),
+                  (subst (TrackerStands configs (log ++ e ∷ []) n) (sym (ap (λ (z : Node). z.tracker) d.1.0)) (tracker_begun configs log at seed n conn half.peer x.tracker (s.each place.tracker) (up_lasts log n up))),
               tt,
             ),
           ),

@@ -131,6 +131,7 @@ module _ (configs : List Config) (log : List Entry) (e : Entry) (n conn : ℕ) (
       no_end = λ c. ends_none-reply log e n c (ap (stops n) acts) lives;
       no_step = ap (steps_tracker n) acts;
       no_question = ap (asks_of n) acts;
+      goes_on = is_stopped-kept log e n (ap (stops n) acts);
       no_answer = λ d h. ap (λ a. takes_answer d a e.reply) acts;
       no_late_answer = λ d h. ap (λ a. takes_answer d a e.reply) acts;
       handshakes = handshakes_of-apart log e n (ap (λ a. are_apart (kinds_of a) handshake_kinds) acts);

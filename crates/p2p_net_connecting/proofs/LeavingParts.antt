@@ -137,6 +137,8 @@ module _ {configs : List Config} {log : List Entry} {n conn : ℕ} {half : Half}
         tracker_ended configs log e n conn 1 t.connection.reservation x.tracker y.tracker (t.stands.each place.tracker) (record {
           no_step = no_tracker conn n sends;
           no_question = no_question conn n sends;
+          goes_on = no_stop conn n sends;
+          lasts = t.lasts;
           no_answer = no_answer conn n why sends;
           no_admission = handshakes_of-apart log e n (no_listener conn n sends);
           ends = ends_only t at seed sends;

@@ -64,7 +64,7 @@ use Rattle.p2p_log_rules.proofs.Routing.{route_kinds}
 use Rattle.p2p_log_rules.proofs.Steps.{steps_tracker, steps_spawner}
 use Rattle.p2p_log_rules.proofs.Answers.{takes_answer}
 use Rattle.p2p_net_tracker.proofs.Leaves.{LeavesTracker}
-use Rattle.p2p_log_rules.proofs.Channels.{up_lasts}
+use Rattle.p2p_log_rules.proofs.Channels.{up_lasts, is_stopped-kept}
 use Rattle.p2p_net_node.proofs.Frames.{lives_on, lasts_after}
 
 -- the row of a step, where the node runs, by the half and how far it is
@@ -187,6 +187,7 @@ step_untold log e n conn acts lives mailbox told = record {
   no_end = λ c. ends_none-reply log e n c (ap (stops n) acts) lives;
   no_step = ap (steps_tracker n) acts;
   no_question = ap (asks_of n) acts;
+  goes_on = is_stopped-kept log e n (ap (stops n) acts);
   no_answer = λ d h. ap (λ a. takes_answer d a e.reply) acts;
   no_late_answer = λ d h. ap (λ a. takes_answer d a e.reply) acts;
   handshakes = handshakes_of-apart log e n (ap (λ a. are_apart (kinds_of a) handshake_kinds) acts);

@@ -1,6 +1,8 @@
 -- The acts of a node's dialer.
+use Rattle.p2p_log_rules.proofs.Channels.{up_lasts}
+use Rattle.p2p_net_tracker.specs.AtDesk.{blocked_asked}
 use Rattle.std.proofs.Common.{◌≡◌, ℕ, suc, ◌+◌, ◌<◌, Bool, true, false, cond, List, [], ◌∷◌, ◌++◌, map, drop, length, refl, ap, sym, subst, ◌∙◌, arith, append-nil, eq-eqb, Option, Some, None}
-use Rattle.std.specs.Prelude.{◌-◌, ◌&&◌, not, nat_le, filter, slice_get}
+use Rattle.std.specs.Prelude.{◌-◌, ◌&&◌, not, nat_le, filter, slice_get, flat_map}
 use Rattle.p2p_base.specs.declared.key.Key.{Key}
 use Rattle.p2p_base.specs.Queue.{has_room}
 use Rattle.p2p_address.specs.declared.peer.Ingress.{Ingress}
@@ -91,10 +93,10 @@ abbrev desk_with : Option Ask → Desk Key → Desk Key
 desk_with None d = d
 desk_with (Some a) d = with_message d a.1
 
--- the item is of the message, which gives nothing back
+-- the item is of the message, which gives nothing back, and is no subscription
 abbrev IsAsked : Tickets → List Entry → Option Ask → Type 0
 IsAsked tickets log None = Unit {0}
-IsAsked tickets log (Some a) = IsMessage tickets log a.0 a.1 × ((l : List Entry) (k : ℕ) → IsGivenBack l k a.1)
+IsAsked tickets log (Some a) = IsMessage tickets log a.0 a.1 × ((l : List Entry) (k : ℕ) → IsGivenBack l k a.1) × (blocked_asked a.1 ≡ [])
 
 -- where it waits
 abbrev waits_in : ℕ → ℕ → Option Ask → List Envelope
@@ -198,7 +200,7 @@ module _ (configs : List Config) (log : List Entry) (moment seed n : ℕ) (x y :
       (mailbox : y.tracker.mailbox ≡ record m { desk = y.tracker.mailbox.desk; dialer = y.tracker.mailbox.dialer })
       (left : (p : Queue) → filter (stands_in p) (filter (stays (goes (e took o))) (live log)) ≡ cond (is_taken_of took n p) (drop 1 (line log p)) (line log p)) where
     open_mailbox : m.desk.messages.closed ≡ false
-    open_mailbox = tracked.is_open
+    open_mailbox = tracked.closed ∙ up_lasts log n up
 
     items_are : (o : Option Ask) → (desk_with o m.desk).messages.items ≡ m.desk.messages.items ++ message_in o
     items_are None = sym (append-nil m.desk.messages.items)
@@ -212,15 +214,15 @@ module _ (configs : List Config) (log : List Entry) (moment seed n : ℕ) (x y :
     capacity_is None = refl
     capacity_is (Some a) = refl
 
-    questions_are : (o : Option Ask) → length (desk_with o m.desk).questions ≡ length m.desk.questions
+    questions_are : (o : Option Ask) → (desk_with o m.desk).questions ≡ m.desk.questions
     questions_are None = refl
     questions_are (Some a) = refl
 
-    updates_are : (o : Option Ask) → length (desk_with o m.desk).updates ≡ length m.desk.updates
+    updates_are : (o : Option Ask) → (desk_with o m.desk).updates ≡ m.desk.updates
     updates_are None = refl
     updates_are (Some a) = refl
 
-    sets_are : (o : Option Ask) → length (desk_with o m.desk).sets ≡ length m.desk.sets
+    sets_are : (o : Option Ask) → (desk_with o m.desk).sets ≡ m.desk.sets
     sets_are None = refl
     sets_are (Some a) = refl
 
@@ -232,6 +234,11 @@ module _ (configs : List Config) (log : List Entry) (moment seed n : ℕ) (x y :
     given_is : (o : Option Ask) → IsAsked x.tracker.tickets log o → (l : List Entry) → Match (λ z w. IsGivenBack l z.entry w) (waits_in k n o) (message_in o)
     given_is None h l = tt
     given_is (Some a) h l = (h.1 l k, tt)
+
+    -- nor subscribed
+    none_asked : (o : Option Ask) → IsAsked x.tracker.tickets log o → flat_map blocked_asked (message_in o) ≡ []
+    none_asked None h = refl
+    none_asked (Some a) h = ap (λ l. l ++ []) h.2
 
     put_is : (o : Option Ask) → put_in log (e took o) (queue.Tracker n) ≡ waits_in k n o
     put_is None = refl
@@ -252,6 +259,7 @@ module _ (configs : List Config) (log : List Entry) (moment seed n : ℕ) (x y :
           no_step = refl;
           no_end = λ conn. ends_untold log (e took o) n conn (e took o).event.act refl refl;
           no_question = refl;
+          goes_on = refl;
           no_answer = λ d. refl;
           no_admission = handshakes_of-apart log (e took o) n refl;
           rest =
@@ -261,9 +269,10 @@ module _ (configs : List Config) (log : List Entry) (moment seed n : ℕ) (x y :
           items = ap (λ (d : Desk Key). d.messages.items) desk ∙ items_are o;
           closed = ap (λ (d : Desk Key). d.messages.closed) desk ∙ closed_is o;
           capacity = ap (λ (d : Desk Key). d.messages.capacity) desk ∙ capacity_is o;
-          questions = ap (λ (d : Desk Key). length d.questions) desk ∙ questions_are o;
-          updates = ap (λ (d : Desk Key). length d.updates) desk ∙ updates_are o;
-          sets = ap (λ (d : Desk Key). length d.sets) desk ∙ sets_are o;
+          questions = ap (λ (d : Desk Key). d.questions) desk ∙ questions_are o;
+          updates = ap (λ (d : Desk Key). d.updates) desk ∙ updates_are o;
+          sets = ap (λ (d : Desk Key). d.sets) desk ∙ sets_are o;
+          none_asked = none_asked o asks;
           each = each_is o asks;
           given = given_is o asks (log ++ e took o ∷ []);
           waits = mailbox_moved log (e took o) n took (waits_in k n o) left (put_is o) (quiet_is o);
@@ -341,7 +350,7 @@ module _ (configs : List Config) (log : List Entry) (moment seed n : ℕ) (x y :
   asks_next took inp items d way (Some key) what is_taken desk answered rest_of row_is items_are left next none h tracks =
       let a : Option Ask = Some (item.AskDial key, message.Dial key) in
       let it : Tracks (Some (record { took = took; asked = Some (item.AskDial key) })) = subst (λ b. Tracks (Some (record { took = b; asked = Some (item.AskDial key) }))) is_taken (subst Tracks h.0 tracks) in
-      moved took a (refl, λ l i. tt) it (ap (λ (w : Mailbox Key). w.desk) h.1.1 ∙ ap (λ w. with_message w (message.Dial key)) desk) (ap (λ (w : Mailbox Key). w.dialer) h.1.1 ∙ answered)
+      moved took a (refl, (λ l i. tt), refl) it (ap (λ (w : Mailbox Key). w.desk) h.1.1 ∙ ap (λ w. with_message w (message.Dial key)) desk) (ap (λ (w : Mailbox Key). w.dialer) h.1.1 ∙ answered)
       (h.1.1
       ∙ (ap (λ w. with_message_in w (message.Dial key)) rest_of
       ∙ (ap (λ w. record m { desk = with_message w (message.Dial key); dialer = way.dialer }) refl ∙ ap (λ (w : Mailbox Key). record m { desk = w.desk; dialer = w.dialer }) (sym h.1.1))))
@@ -366,7 +375,7 @@ module _ (configs : List Config) (log : List Entry) (moment seed n : ℕ) (x y :
   by_peers [] what is row_is h tracks =
       let a : Option Ask = Some (item.AskDialable, message.Dialable) in
       let now = actor_of g (record ds { asked_at = moment; is_asking = true }) in
-      moved false a (refl, λ l i. tt) (subst Tracks h.0 tracks) (ap (λ (w : Mailbox Key). w.desk) h.1.1) (ap (λ (w : Mailbox Key). w.dialer) h.1.1)
+      moved false a (refl, (λ l i. tt), refl) (subst Tracks h.0 tracks) (ap (λ (w : Mailbox Key). w.desk) h.1.1) (ap (λ (w : Mailbox Key). w.dialer) h.1.1)
       (h.1.1 ∙ ap (λ (w : Mailbox Key). record m { desk = w.desk; dialer = w.dialer }) (sym h.1.1)) (none_left log n) [] None (record ds { asked_at = moment; is_asking = true }) row_is (nothing_taken a)
       (asked_told (pace_of g) n moment [] (queue.Tracker n) [] ds) (actor_now now x.dialing.attempts h.1.0) tt (attempts_now now x.dialing.attempts h.1.0)
   by_peers (key ∷ keys) what is row_is h tracks = by_key key keys (last_key ds.peers) what is refl (row_is ∙ ap (dials_row n []) (sym is)) h tracks

@@ -1,4 +1,5 @@
 -- The exchange of keys over a link ends: the attempt is told, and the handshake at the other end.
+use Rattle.p2p_log_rules.proofs.Channels.{is_stopped-kept}
 use Rattle.std.proofs.Common.{◌≡◌, ℕ, Bool, true, false, cond, List, [], ◌∷◌, ◌++◌, length, refl, ap, sym, subst, ◌∙◌, append-nil, eqb-true, Option, Some, None}
 use Rattle.std.specs.Prelude.{filter, is_some, not, slice_get, slice_set, ◌==◌, ◌&&◌, ◌||◌}
 use Rattle.std.specs.List.{list_any}
@@ -273,6 +274,7 @@ module _ (configs : List Config) (log : List Entry) (moment seed link : ℕ) (ok
     no_step = refl;
     no_end = λ conn. ends_untold log e m conn (act.Finish link ok) refl refl;
     no_question = refl;
+    goes_on = is_stopped-kept log e m refl;
     no_answer = λ d h. refl;
     no_late_answer = λ d h. refl;
     handshakes = handshakes_of-apart log e m refl;
@@ -288,6 +290,7 @@ module _ (configs : List Config) (log : List Entry) (moment seed link : ℕ) (ok
     no_step = refl;
     no_end = λ conn. ends_untold log e m conn (act.Finish link ok) refl refl;
     no_question = refl;
+    goes_on = refl;
     no_answer = λ d. refl;
     names = handshakes_of-apart log e m refl;
     runs = (ends_lead log m link h (end_is ∙ same)).0;

@@ -1,4 +1,5 @@
 -- What a step of an attempt or of a handshake hands on: what the tracker, or the spawner, is then asked, and what that makes of the queues and of both.
+use Rattle.p2p_net_tracker.specs.AtDesk.{blocked_asked}
 use Rattle.std.proofs.Common.{◌≡◌, ℕ, Bool, true, false, cond, List, [], ◌∷◌, ◌++◌, map, length, refl, ap, sym, ◌∙◌, append-nil, Option, Some, None}
 use Rattle.std.specs.Prelude.{filter, flat_map}
 use Rattle.p2p_base.specs.declared.key.Key.{Key}
@@ -38,7 +39,7 @@ use Rattle.p2p_net_tracker.specs.GivenBack.{IsGivenBack}
 use Rattle.p2p_net_tracker.specs.Stands.{is_told}
 use Rattle.p2p_net_tracker.specs.declared.tracker.Tracker.{Tracker}
 use Rattle.p2p_net_tracker.proofs.Changes.{told_apart}
-use Rattle.p2p_net_tracker.proofs.Moved.{asked_line, IsAskedBack}
+use Rattle.p2p_net_tracker.proofs.Moved.{asked_line, asked_messages, IsAskedBack}
 use Rattle.p2p_net_tracker.proofs.ToldLines.{away_none}
 use Rattle.p2p_net_dialing.specs.Dialing.{Asks}
 use Rattle.p2p_net_dialing.specs.Spawning.{release_item, Spawns}
@@ -72,16 +73,22 @@ spawner_after k nothing s = s
 spawner_after k (question i m) s = s
 spawner_after k (connection link m) s = spawned false k link m s
 
--- what is handed on is of its side: what the entry gives back, and what the spawner is asked for
+-- what is handed on is of its side: what the entry gives back, which is no subscription, and what the spawner is asked for
 abbrev pub IsOnItsSide : List Entry → Entry → ℕ → Handed → Type 0
 IsOnItsSide log e n nothing = Unit {0}
-IsOnItsSide log e n (question i m) = IsGivenBack (log ++ e ∷ []) (length log) m
+IsOnItsSide log e n (question i m) = IsGivenBack (log ++ e ∷ []) (length log) m × (blocked_asked m ≡ [])
 IsOnItsSide log e n (connection link m) = IsReservedOver log n link m
 
 pub asked_on_its_side : (log : List Entry) (e : Entry) (n : ℕ) (h : Handed) → IsOnItsSide log e n h → IsAskedBack (log ++ e ∷ []) (length log) (message_in h)
 asked_on_its_side log e n nothing h = tt
-asked_on_its_side log e n (question i m) h = h
+asked_on_its_side log e n (question i m) h = h.0
 asked_on_its_side log e n (connection link m) h = tt
+
+-- and it is no subscription
+pub none_subscribed : (log : List Entry) (e : Entry) (n : ℕ) (h : Handed) → IsOnItsSide log e n h → flat_map blocked_asked (asked_messages (message_in h)) ≡ []
+none_subscribed log e n nothing h = refl
+none_subscribed log e n (question i m) h = ap (λ l. l ++ []) h.1
+none_subscribed log e n (connection link m) h = refl
 
 -- the entry k did so at the node n, whose tracker's mailbox is this then
 pub record HandedOn (k n : ℕ) (h : Handed) (way : Mailbox Key) (old new : Node) (row after : Row) : Type 0 where

@@ -1,5 +1,6 @@
 -- A step of a handshake, with the end of its link.
-use Rattle.std.proofs.Common.{ℕ, cond, List, length, refl, ap, sym, ◌∙◌, None}
+use Rattle.p2p_log_rules.specs.Facts.{is_stopped}
+use Rattle.std.proofs.Common.{◌≡◌, ℕ, true, false, cond, List, length, refl, ap, sym, ◌∙◌, Option, None}
 use Rattle.std.specs.Prelude.{◌||◌, is_some}
 use Rattle.std.specs.List.{list_any}
 use Rattle.p2p_log.specs.declared.config.Config.{Config}
@@ -13,7 +14,7 @@ use Rattle.p2p_log_rules.specs.Dropping.{handshake_drops, listening_end}
 use Rattle.p2p_log_rules.specs.Puts.{is_spawn}
 use Rattle.p2p_log_rules.proofs.Dropping.{all_of, drops_of-handshake}
 use Rattle.p2p_log_rules.specs.Effect.{entry_of}
-use Rattle.p2p_log_rules.specs.Handshakes.{came_over}
+use Rattle.p2p_log_rules.specs.Handshakes.{came_over, is_handshaking}
 use Rattle.p2p_log_rules.specs.Handshaking as log_rule
 use Rattle.p2p_log_laws.proofs.HandedSides.{HandshakeDialed}
 use Rattle.p2p_net_queues.specs.Tables as table
@@ -29,11 +30,11 @@ use Rattle.p2p_net_dialing.proofs.Shaken.{named, lost_by, Shaken, step_row}
 use Rattle.p2p_net_dialing.proofs.Handshaking.{shaken}
 
 pub handshake_performs : (configs : List Config) (log : List Entry) (moment seed name n : ℕ) (x y : Node) (l ls : Links) (r : Row) → NodeStands configs log n x → LinksStand configs log l
-    → HandshakeDialed log n name → HandshakeSteps (length log) n name moment x y l ls r → Performs configs log (asked moment seed (act.Handshake name n)) n y ls r
-handshake_performs configs log moment seed name n x y l ls r s t heard d =
+    → HandshakeDialed log n name → (is_handshaking log n name ≡ true → is_stopped log n ≡ false) → HandshakeSteps (length log) n name moment x y l ls r → Performs configs log (asked moment seed (act.Handshake name n)) n y ls r
+handshake_performs configs log moment seed name n x y l ls r s t heard running_lasts d =
     let link : Option ℕ = came_over log name in
     let waits = line log (queue.Handshake n name) in
-    let h : Shaken configs log (asked moment seed (act.Handshake name n)) n name x y d.row = shaken configs log moment seed name n x y d.row s d.steps heard in
+    let h : Shaken configs log (asked moment seed (act.Handshake name n)) n name x y d.row = shaken configs log moment seed name n x y d.row s d.steps heard running_lasts in
     performs_beside configs log (asked moment seed (act.Handshake name n)) n x y l ls named (lost_by log n name d.row) (log_rule.handshake_row configs log name n moment) d.row r
     (is_some (table.at y.listening.handshakes name) || list_any is_spawn d.row.puts) (link_over (table.at x.listening.handshakes name)) side.In s t refl refl refl
     (λ p out. not_among-links named p n out) h.did d.drops h.keeps

@@ -35,7 +35,7 @@ use Rattle.p2p_log.specs.Lines.{name_of, placed, goes, live, line, stays, stands
 use Rattle.p2p_log.proofs.QueueNames.{queue_from_same}
 use Rattle.p2p_log_rules.proofs.Connections.{ends_untold}
 use Rattle.p2p_log_rules.specs.declared.row.Row.{Row}
-use Rattle.p2p_log_rules.specs.Facts.{taken}
+use Rattle.p2p_log_rules.specs.Facts.{taken, is_stopped}
 use Rattle.p2p_log_rules.specs.Dropping.{LinkEnd, listening_end}
 use Rattle.p2p_log_rules.specs.Puts.{is_spawn, broke_off}
 use Rattle.p2p_log_rules.specs.Effect.{only, entry_of}
@@ -76,12 +76,13 @@ use Rattle.p2p_net_node.specs.Stands.{PartStands, NodeStands}
 use Rattle.p2p_net_node.specs.declared.node.Node.{Node}
 use Rattle.p2p_net_dialing.proofs.DroppedEnds.{ended_with, dropped, goes_by, is_of_link, told_unlinked, unlinked_stay, LeavesLinks, end_by, DidBeside}
 use Rattle.p2p_net_node.proofs.EachPart.{AllOf}
-use Rattle.p2p_net_dialing.proofs.HandingOn.{Handed, nothing, question, connection, handed_puts, item_in, message_in, spawner_after, IsOnItsSide, asked_on_its_side, HandedOn, nothing_asked, question_asked, connection_refused, connection_asked}
+use Rattle.p2p_net_dialing.proofs.HandingOn.{Handed, nothing, question, connection, handed_puts, item_in, message_in, spawner_after, IsOnItsSide, asked_on_its_side, none_subscribed, HandedOn, nothing_asked, question_asked, connection_refused, connection_asked}
 use Rattle.p2p_net_dialing.proofs.HandingOn.{all_gone, none_gone, handed_unlinked, line_asked, line_elsewhere, line_told, handed_spawner, tracker_after}
 use Rattle.p2p_net_node.proofs.Performing.{asked, is_quiet, IsStill, part_still}
 use Rattle.p2p_net_dialing.proofs.Shaken.{left_is, linked_elsewhere, named, no_end, broken_end, firsts, lost_by, Shaken}
 
-module _ (configs : List Config) (log : List Entry) (moment seed name n : ℕ) (x y : Node) (r : Row) (s : NodeStands configs log n x) (steps : Shakes (length log) n name moment x y r) (heard : HandshakeDialed log n name) where
+module _ (configs : List Config) (log : List Entry) (moment seed name n : ℕ) (x y : Node) (r : Row) (s : NodeStands configs log n x) (steps : Shakes (length log) n name moment x y r) (heard : HandshakeDialed log n name)
+    (running_lasts : is_handshaking log n name ≡ true → is_stopped log n ≡ false) where
   abbrev ev : Event
   ev = asked moment seed (act.Handshake name n)
 
@@ -314,6 +315,9 @@ module _ (configs : List Config) (log : List Entry) (moment seed name n : ℕ) (
             no_step = refl;
             no_end = λ conn. ends_untold log (e due) n conn (e due).event.act refl refl;
             no_question = refl;
+            goes_on = refl;
+            lasts = running_lasts runs;
+            none_asked = none_subscribed log (e due) n o right;
             no_answer = λ k. refl;
             names = handshakes_stepped log (e due) n name items ended refl took_is log_ends;
             rest = tracker_after x.tracker mid.tracker y.tracker (names_asked (length log) (item_in o)) (record m { desk = asked_desk m.desk (message_in o); handshakes = y.tracker.mailbox.handshakes }) tracks.1.1 on.tracker mailbox;
@@ -430,7 +434,7 @@ module _ (configs : List Config) (log : List Entry) (moment seed name n : ℕ) (
         by_room true is_full so =
             ends_here (item.Listen (Some key)) (outcome.Ready reserved) back said so refl
             (ap (λ b. handed_on_row n b key peer.link (name_of z) zs) is_full)
-            (λ same hands. connection_refused (length log) n ended_left mid y steps.taken r same h.arrival.link reserved hands (refuses_is ∙ is_full)) (reserved, refl, refl) given
+            (λ same hands. connection_refused (length log) n ended_left mid y steps.taken r same h.arrival.link reserved hands (refuses_is ∙ is_full)) (reserved, refl, refl) (given, refl)
         by_room false room so =
             ends_here (item.Listen (Some key)) (outcome.Ready reserved) (connection h.arrival.link reserved) said so refl
             (ap (λ b. handed_on_row n b key peer.link (name_of z) zs) room)
@@ -460,7 +464,7 @@ module _ (configs : List Config) (log : List Entry) (moment seed name n : ℕ) (
           (λ same hands. question_asked (length log) n way mid y steps.taken r same asking told hands)
           (due_is (item.Finished true) said ∙ ap (λ j. exchanged_row n j peer.key (name_of z)) (sym is.name))
           (ap (λ xs. record (handshake_step_row true false xs) { puts = (queue.Tracker n, asking) ∷ [] }) first) refl (taken_is (item.Finished true) due said refl) (front_is (item.Finished true) said) refl refl refl one_dropped distinct_left
-          (h.arrival.from.ip, ap (source_at (log ++ e due ∷ [])) is.name ∙ source_at-longer log (e due ∷ []) name h.arrival.from.ip (ap (option_map (λ (s : Handshake). s.source)) is.began), refl) tt rest_left
+          (h.arrival.from.ip, ap (source_at (log ++ e due ∷ [])) is.name ∙ source_at-longer log (e due ∷ []) name h.arrival.from.ip (ap (option_map (λ (s : Handshake). s.source)) is.began), refl) (tt, refl) rest_left
           (subst (λ b. HandshakeIs (facts_after items (facts_of configs log n name)) name true (cond b None (Some (record h { is_finished = true })))) (sym is.runs)
           (refl, record { name = is.name; deadline = is.deadline; accepted = is.accepted; finished = refl; at = is.at; began = is.began; runs = is.runs; works = is.works }))
 

@@ -1,4 +1,5 @@
 -- What a step of a node's listener comes to, but for the end of an arrival that it turns away.
+use Rattle.p2p_log_rules.proofs.Channels.{up_lasts, is_stopped-kept}
 use Rattle.std.proofs.Common.{◌≡◌, ℕ, ◌+◌, Bool, true, false, cond, List, [], ◌∷◌, ◌++◌, map, drop, length, refl, ap, sym, subst, ◌∙◌, arith, append-nil, eq-eqb, length-append, Option, Some, None}
 use Rattle.std.specs.Prelude.{◌≤◌, ◌==◌, slice_get}
 use Rattle.std.specs.Option.{option_map}
@@ -225,6 +226,7 @@ module _ (configs : List Config) (log : List Entry) (moment seed n : ℕ) (x y :
           no_step = refl;
           no_end = λ conn. ends_untold log (e due_update) n conn (e due_update).event.act refl refl;
           no_question = refl;
+          goes_on = refl;
           no_answer = λ d. refl;
           no_admission = begins_none due_update refl;
           rest = tracks.1.1 ∙ ap (λ w. record x.tracker { mailbox = w; told = y.tracker.told }) (way_is T_update turn_update);
@@ -442,6 +444,7 @@ module _ (configs : List Config) (log : List Entry) (moment seed n : ℕ) (x y :
             no_step = refl;
             no_end = λ conn. ends_untold log (e (due told)) n conn (e (due told)).event.act refl refl;
             no_question = refl;
+            goes_on = is_stopped-kept log (e (due told)) n refl;
             no_answer = λ d is_asked. refl;
             no_late_answer = λ d past. refl;
             mailbox = line_told told (queue.Tracker n) refl ∙ (ap (λ xs. line log (queue.Tracker n) ++ xs) alone ∙ append-nil (line log (queue.Tracker n)));
@@ -462,16 +465,17 @@ module _ (configs : List Config) (log : List Entry) (moment seed n : ℕ) (x y :
             no_step = refl;
             no_end = λ conn. ends_untold log (e d) n conn (e d).event.act refl refl;
             no_question = refl;
+            goes_on = refl;
             no_answer = λ q. refl;
             admits = begins_one;
             source_is = ap (option_map (λ (h : Handshake). h.source)) began;
             rest = it.1 ∙ ap (λ (u : Mailbox Key). record x.tracker { mailbox = u; names = x.tracker.names ++ (k, 0) ∷ [] }) (w ∙ sym (mailbox_now w));
-            items = ap (λ (u : Mailbox Key). u.desk.messages.items) w ∙ kept_open m.desk.messages.closed (has_room m.desk.messages) m.desk.messages.items (message.Acceptable a.key a.from.ip k) tracked.is_open;
+            items = ap (λ (u : Mailbox Key). u.desk.messages.items) w ∙ kept_open m.desk.messages.closed (has_room m.desk.messages) m.desk.messages.items (message.Acceptable a.key a.from.ip k) (tracked.closed ∙ up_lasts log n up);
             closed = ap (λ (u : Mailbox Key). u.desk.messages.closed) w;
             capacity = ap (λ (u : Mailbox Key). u.desk.messages.capacity) w;
-            questions = ap (λ (u : Mailbox Key). length u.desk.questions) w;
-            updates = ap (λ (u : Mailbox Key). length u.desk.updates) w;
-            sets = ap (λ (u : Mailbox Key). length u.desk.sets) w;
+            questions = ap (λ (u : Mailbox Key). u.desk.questions) w;
+            updates = ap (λ (u : Mailbox Key). u.desk.updates) w;
+            sets = ap (λ (u : Mailbox Key). u.desk.sets) w;
             waits = line_told gates.Admitted (queue.Tracker n) refl ∙ ap (λ b. line log (queue.Tracker n) ++ cond b (asked_envelope ∷ []) []) (same_queue-refl (queue.Tracker n));
             lines = told_lines gates.Admitted;
           }))

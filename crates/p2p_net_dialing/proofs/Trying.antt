@@ -1,6 +1,6 @@
 -- The steps of the attempts of a node's dialer.
 use Rattle.std.proofs.Common.{◌≡◌, ℕ, ◌+◌, Bool, true, false, cond, List, [], ◌∷◌, ◌++◌, map, length, refl, ap, sym, subst, ◌∙◌, Option, Some, None}
-use Rattle.std.specs.Prelude.{min, nat_le, not, filter}
+use Rattle.std.specs.Prelude.{min, nat_le, not, filter, is_some}
 use Rattle.std.specs.Option.{option_map}
 use Rattle.p2p_base.specs.declared.key.Key.{Key}
 use Rattle.p2p_address.specs.declared.ip.SocketAddr.{SocketAddr}
@@ -46,7 +46,7 @@ use Rattle.p2p_log_rules.specs.Dialed.{dialer_of}
 use Rattle.p2p_log_rules.specs.Dropping.{LinkEnd, dialing_end, attempt_drops, attempt_step_row}
 use Rattle.p2p_log_rules.specs.Puts.{gave_up, ends_attempt}
 use Rattle.p2p_log_rules.specs.Effect.{only, row, entry_of}
-use Rattle.p2p_log_rules.specs.Facts.{taken}
+use Rattle.p2p_log_rules.specs.Facts.{taken, is_stopped}
 use Rattle.p2p_log_rules.specs.Rows.{is_spawner_full, taken_row}
 use Rattle.p2p_log_rules.proofs.Handshakes.{handshakes_of-apart}
 use Rattle.p2p_log_laws.proofs.HandedSides.{AttemptDialed}
@@ -84,7 +84,7 @@ use Rattle.p2p_net_node.specs.declared.node.Node.{Node}
 use Rattle.p2p_net_dialing.proofs.Attempting.{other_named, other_attempt}
 use Rattle.p2p_net_dialing.proofs.DroppedEnds.{dropped, goes_by, is_of_link, told_unlinked, unlinked_stay, LeavesLinks, end_by, DidBeside, performs_beside}
 use Rattle.p2p_net_node.proofs.EachPart.{AllOf, not_among-links}
-use Rattle.p2p_net_dialing.proofs.HandingOn.{Handed, nothing, question, connection, handed_puts, item_in, message_in, spawner_after, IsOnItsSide, asked_on_its_side, HandedOn, nothing_asked, question_asked, connection_refused, connection_asked}
+use Rattle.p2p_net_dialing.proofs.HandingOn.{Handed, nothing, question, connection, handed_puts, item_in, message_in, spawner_after, IsOnItsSide, asked_on_its_side, none_subscribed, HandedOn, nothing_asked, question_asked, connection_refused, connection_asked}
 use Rattle.p2p_net_dialing.proofs.HandingOn.{all_gone, none_gone, handed_unlinked, line_asked, line_elsewhere, line_told, handed_spawner, tracker_after}
 use Rattle.p2p_net_node.proofs.Performing.{asked, Performs}
 
@@ -113,7 +113,7 @@ abbrev named : List place.Part
 named = place.tracker ∷ place.dialer ∷ place.spawner ∷ []
 
 module _ (configs : List Config) (log : List Entry) (moment seed name n : ℕ) (x y : Node) (r : Row) (s : NodeStands configs log n x) (steps : TriesAttempt (length log) n name moment seed x y r) (dials : AttemptDialed configs log n name)
-    (lost : Option LinkEnd) where
+    (running_lasts : (b : Attempt) → attempts_of configs log n name ≡ Some b → is_stopped log n ≡ false) (lost : Option LinkEnd) where
   abbrev ev : Event
   ev = asked moment seed (act.Attempt name n)
 
@@ -177,7 +177,7 @@ module _ (configs : List Config) (log : List Entry) (moment seed name n : ℕ) (
   module _ (base : Row) (o : Handed) (way : Mailbox Key) (left : List Envelope) (now : Option RunningAttempt) (next : Option Attempt) (none : base.puts ≡ []) (on : HandedOn (length log) n o way mid y base r)
       (row_is : attempt_row configs log name n moment seed ≡ record base { puts = handed_puts n o })
       (way_is : way ≡ record m { desk = asked_desk m.desk (message_in o) }) (says : IsAsked x.tracker.tickets log (item_in o) (message_in o))
-      (right : IsOnItsSide log (e (record base { puts = handed_puts n o })) n o)
+      (right : IsOnItsSide log (e (record base { puts = handed_puts n o })) n o) (node_lasts : is_some (message_in o) ≡ true → is_stopped log n ≡ false)
       (but : AreBut name now x.dialing.attempts mid.dialing.attempts)
       (becomes : cond (ends_attempt (handed_puts n o)) None (took (taken log (e (record base { puts = handed_puts n o }))) (attempts name)) ≡ next)
       (stay : (p : Queue) → filter (stands_in p) (filter (stays (goes_by (record base { puts = handed_puts n o }))) (live log)) ≡ cond (same_queue q p) left (line log p))
@@ -204,13 +204,14 @@ module _ (configs : List Config) (log : List Entry) (moment seed name n : ℕ) (
         steps.tracker ∙ ap (λ w. record x.tracker { mailbox = mid.tracker.mailbox; told = w }) (sym (ap (λ (w : Tracker). w.told) steps.tracker)) in
         let mailbox : Mailbox Key = record m { desk = asked_desk m.desk (message_in o) } in
         let after : Tracker = record x.tracker { mailbox = mailbox; names = x.tracker.names ++ names_asked (length log) (item_in o); told = y.tracker.told } in
-        let grows = desk_grows m.desk (message_in o) tracked.is_open in
+        let grows = desk_grows m.desk (message_in o) (λ some. tracked.closed ∙ node_lasts some) in
         subst (TrackerStands configs (log ++ e due ∷ []) n) (sym (tracker_after x.tracker mid.tracker y.tracker (names_asked (length log) (item_in o)) mailbox first on.tracker (on.mailbox ∙ way_is)))
         (tracker_dialed configs log (e due) n x.tracker after false (asked_line n (length log) (item_in o)) (asked_messages (message_in o)) tracked
         (record {
           no_step = refl;
           no_end = λ conn. ends_untold log (e due) n conn (e due).event.act refl refl;
           no_question = refl;
+          goes_on = refl;
           no_answer = λ d. refl;
           no_admission = handshakes_of-apart log (e due) n refl;
           rest = ap (λ l. record after { names = x.tracker.names ++ l }) (sym (names_are n (length log) (item_in o)));
@@ -220,6 +221,7 @@ module _ (configs : List Config) (log : List Entry) (moment seed name n : ℕ) (
           questions = grows.questions;
           updates = grows.updates;
           sets = grows.sets;
+          none_asked = none_subscribed log (e due) n o right;
           each = asked_match x.tracker.tickets log n (length log) (item_in o) (message_in o) says;
           given = asked_back x.tracker.tickets log (log ++ e due ∷ []) n (length log) (item_in o) (message_in o) says (asked_on_its_side log (e due) n o right);
           waits = line_asked log (e due) n o refl (left_in (queue.Tracker n) refl);
@@ -289,7 +291,7 @@ module _ (configs : List Config) (log : List Entry) (moment seed name n : ℕ) (
   still : (rep : Reply) (o : Option RunningAttempt) (b : Option Attempt) → table.at x.dialing.attempts name ≡ o → attempts name ≡ b → attempt_row configs log name n moment seed ≡ only rep
       → steps.tried ≡ record { row = only rep; released = None; ready = None } → AreBut name o x.dialing.attempts mid.dialing.attempts → mid.tracker.mailbox ≡ m → Done
   still rep o b there is row_is tried_is but same =
-      turned (only rep) nothing m (line log q) o b refl (asked_nothing (only rep) tried_is same) row_is refl tt tt but
+      turned (only rep) nothing m (line log q) o b refl (asked_nothing (only rep) tried_is same) row_is refl tt tt (λ some. cc) but
       (ap (λ i. took i (attempts name)) (none_taken log (e (only rep)) refl) ∙ is)
       (none_gone log q (line log q) refl) (subst (λ w. AttemptStands g name w b (line log q)) there (subst (λ w. AttemptStands g name (table.at x.dialing.attempts name) w (line log q)) is (stood.attempts name)))
 
@@ -307,8 +309,8 @@ module _ (configs : List Config) (log : List Entry) (moment seed name n : ℕ) (
     peer = ap peer_of dialed
 
     -- it is given back by an attempt
-    back : (due : Row) → due.puts ≡ (queue.Tracker n, item.Release (peer_of reserved)) ∷ [] → IsGivenBack (log ++ e due ∷ []) (length log) (message.Release reserved)
-    back due puts = given_now log (e due) reserved (subst (IsOfSide (side_freed_by log (e due))) (sym dialed) (attempt_gives log (e due) n name (queue.Tracker n) (peer_of reserved) refl puts))
+    back : (due : Row) → due.puts ≡ (queue.Tracker n, item.Release (peer_of reserved)) ∷ [] → IsOnItsSide log (e due) n (release reserved)
+    back due puts = (given_now log (e due) reserved (subst (IsOfSide (side_freed_by log (e due))) (sym dialed) (attempt_gives log (e due) n name (queue.Tracker n) (peer_of reserved) refl puts)), refl)
 
     due_row : (xs : List Envelope) → line log q ≡ xs → attempt_row configs log name n moment seed ≡ attempt_turn n moment seed full private b xs
     due_row xs first = row_by (Some b) is ∙ ap (attempt_turn n moment seed full private b) first
@@ -321,7 +323,7 @@ module _ (configs : List Config) (log : List Entry) (moment seed name n : ℕ) (
         let base : Row = record { reply = reply.Ok; takes = []; puts = []; ends = [] } in
         turned base (release reserved) (with_message_in m (message.Release reserved)) [] None None refl (gave_back base reserved h.0 h.1.1)
         (due_row [] none ∙ (ap (λ c. cond c (given_up_row n b.key [] []) (only reply.Idle)) come ∙ ap (λ key. given_up_row n key [] []) (sym peer))) refl (reserved, refl, refl)
-        (back (given_up_row n (peer_of reserved) [] []) refl) h.1.0
+        (back (given_up_row n (peer_of reserved) [] []) refl) (λ some. running_lasts b is) h.1.0
         refl
         (none_gone log q [] none) refl
     by_deadline false come none h =
@@ -347,7 +349,7 @@ module _ (configs : List Config) (log : List Entry) (moment seed name n : ℕ) (
           → AreBut name None x.dialing.attempts mid.dialing.attempts → Done
       gives_up on row_is but =
           turned ended_row (release reserved) (with_message_in m (message.Release reserved)) [] None None refl on (row_is ∙ ap (λ key. given_up_row n key (name_of z ∷ []) zs) (sym peer)) refl (reserved, refl, refl)
-          (back (given_up_row n (peer_of reserved) (name_of z ∷ []) zs) refl) but
+          (back (given_up_row n (peer_of reserved) (name_of z ∷ []) zs) refl) (λ some. running_lasts b is) but
           refl (all_gone log q z zs first) refl
 
       ends : attempt_row configs log name n moment seed ≡ given_up_row n b.key (name_of z ∷ []) zs
@@ -364,7 +366,7 @@ module _ (configs : List Config) (log : List Entry) (moment seed name n : ℕ) (
           gives_up (connection_refused (length log) n m mid y ended_row r same link reserved hands (refuses_is ∙ is_full)) row_is but
       is_ready link false room dial row_is hands but same =
           turned ended_row (connection link reserved) m [] None None refl (connection_asked (length log) n m mid y ended_row r same link reserved hands (refuses_is ∙ room))
-          (row_is ∙ ap (λ key. handed_on_row n false key link (name_of z) zs) (sym peer)) refl tt (subst (IsReservedOver log n link) (sym dialed) dial) but
+          (row_is ∙ ap (λ key. handed_on_row n false key link (name_of z) zs) (sym peer)) refl tt (subst (IsReservedOver log n link) (sym dialed) dial) (λ some. cc) but
           refl (all_gone log q z zs first) refl
 
       -- it goes on
@@ -372,7 +374,7 @@ module _ (configs : List Config) (log : List Entry) (moment seed name n : ℕ) (
           → steps.tried ≡ record { row = taken_row (name_of z); released = None; ready = None }
           → AreBut name (Some (attempt_of g name reserved next zs)) x.dialing.attempts mid.dialing.attempts → mid.tracker.mailbox ≡ m → Done
       lasts next key row_is becomes tried_is but same =
-          turned (taken_row (name_of z)) nothing m zs (Some (attempt_of g name reserved next zs)) (Some next) refl (asked_nothing (taken_row (name_of z)) tried_is same) row_is refl tt tt but
+          turned (taken_row (name_of z)) nothing m zs (Some (attempt_of g name reserved next zs)) (Some next) refl (asked_nothing (taken_row (name_of z)) tried_is same) row_is refl tt tt (λ some. cc) but
           (becoming (taken_row (name_of z)) (Some next) refl becomes) (first_left log q z zs first) (reserved, dialed ∙ ap metadata.Dialer (sym key), refl)
 
       module _ (addresses : List SocketAddr) (item_is : z.item ≡ item.Resolved addresses) where
@@ -455,14 +457,14 @@ unfolding row
 step_row configs log moment seed name n = refl
 
 pub attempt_performs : (configs : List Config) (log : List Entry) (moment seed name n : ℕ) (x y : Node) (l ls : Links) (r : Row) → NodeStands configs log n x → LinksStand configs log l
-    → AttemptDialed configs log n name → AttemptSteps (length log) n name moment seed x y l ls r → Performs configs log (asked moment seed (act.Attempt name n)) n y ls r
-attempt_performs configs log moment seed name n x y l ls r s t dials d =
+    → AttemptDialed configs log n name → ((b : Attempt) → attempts_of configs log n name ≡ Some b → is_stopped log n ≡ false) → AttemptSteps (length log) n name moment seed x y l ls r → Performs configs log (asked moment seed (act.Attempt name n)) n y ls r
+attempt_performs configs log moment seed name n x y l ls r s t dials running_lasts d =
     let stood : DialerStands configs log n x.dialing = s.each place.dialer in
     let o = table.at x.dialing.attempts name in
     let b = attempts_of configs log n name in
     let lost : Option LinkEnd = cond (gave_up d.row.puts) (dialing_end log n name) None in
     let did : DidBeside configs log (asked moment seed (act.Attempt name n)) n x y named lost (attempt_row configs log name n moment seed) d.row =
-    by_attempt configs log moment seed name n x y d.row s d.steps dials lost o b refl refl (stood.attempts name) d.steps.tries
+    by_attempt configs log moment seed name n x y d.row s d.steps dials running_lasts lost o b refl refl (stood.attempts name) d.steps.tries
     in
     performs_beside configs log (asked moment seed (act.Attempt name n)) n x y l ls named lost (attempt_row configs log name n moment seed) d.row r (not (gave_up d.row.puts)) (link_at o) side.Out s t refl refl refl
     (λ p out. not_among-links named p n out) did d.drops

@@ -348,6 +348,11 @@ handshakes_unnamed log e n (act.Stop by_start m) acts h =
     (quiet_told (told log) log e (of_handshakes n) (act.Stop by_start m) acts (record { stops = refl; attempt = λ k. refl; handshake = λ k link. other; connection = λ conn. refl; drops = λ link s. refl }))
 handshakes_unnamed log e n a acts h = handshakes_of-apart log e n (ap (λ b. are_apart (kinds_of b) handshake_kinds) acts)
 
+-- it does not stop a node whose tracker it does not name
+tracker_lasts : (log : List Entry) (n : ℕ) (a : Act) → names log a (at tracker n) ≡ false → stops n a ≡ false
+tracker_lasts log n (act.Stop by_start m) h = grind (arith, nat_tests)
+tracker_lasts log n _ h = refl
+
 -- ---- all parts
 
 pub part_frame : (p : Part) (configs : List Config) (log : List Entry) (ev : Event) (n : ℕ) (x : Node) → PartStands p configs log n x → names log ev.act (at p n) ≡ false → MakesUnbegun log n ev.act
@@ -379,6 +384,7 @@ part_frame tracker configs log ev n x s h late =
       no_step = ap (steps_tracker n) (effect-act configs log ev) ∙ tracks_none log n ev.act h;
       no_end = λ conn. ends_none-act log e n conn ev.act (effect-act configs log ev) (tracker_apart log n conn ev.act h);
       no_question = ap (asks_of n) (effect-act configs log ev) ∙ asks_none log n ev.act h;
+      goes_on = is_stopped-kept log e n (ap (stops n) (effect-act configs log ev) ∙ tracker_lasts log n ev.act h);
       no_answer = λ d asked. ap (λ a. takes_answer d a e.reply) (effect-act configs log ev) ∙ answers_none log n d ev.act e.reply h asked;
       no_late_answer = λ d past. late_answer configs log ev d past;
       mailbox = line-unnamed configs log ev (queue.Tracker n) h;

@@ -1,4 +1,5 @@
 pub mod ActKinds
+pub mod AskedOf
 pub mod EachPart
 pub mod Faults
 pub mod Frames

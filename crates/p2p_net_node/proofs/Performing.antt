@@ -304,6 +304,7 @@ part_still tracker configs log e n x a rep s is q h =
       no_step = ap (steps_tracker n) is ∙ quiet_tracks n a rep q;
       no_end = λ conn. still_ends log e n conn a rep is h.reply q;
       no_question = ap (asks_of n) is ∙ quiet_asks n a rep q;
+      goes_on = is_stopped-kept log e n (ap (stops n) is ∙ turns_stops n a (quiet_turns n a rep q));
       no_answer = λ d asked. ap (λ b. takes_answer d b e.reply) is ∙ quiet_answers d a rep e.reply q;
       no_late_answer = λ d past. ap (λ b. takes_answer d b e.reply) is ∙ quiet_answers d a rep e.reply q;
       mailbox = line-still log e rep (queue.Tracker n) h;

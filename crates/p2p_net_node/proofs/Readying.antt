@@ -1,5 +1,5 @@
 -- An act that may be asked for finds its nodes ready.
-use Rattle.std.proofs.Common.{◌≡◌, ℕ, zero, suc, ◌+◌, ◌*◌, ◌^◌, ◌<◌, ◌≤◌, Bool, true, false, List, [], ◌∷◌, length, refl, ap, sym, subst, ◌∙◌, arith, Option, Some, None}
+use Rattle.std.proofs.Common.{◌≡◌, ℕ, zero, suc, ◌+◌, ◌*◌, ◌^◌, ◌<◌, ◌≤◌, Bool, true, false, List, [], ◌∷◌, length, refl, ap, sym, subst, ◌∙◌, arith, Option, Some, None, inl, inr}
 use Rattle.std.specs.Prelude.{slice_get, nat_lt, nat_le, not, ◌&&◌, is_some}
 use Rattle.std.proofs.lemmas.Bool.{and_parts, not-true, false≢true}
 use Rattle.std.proofs.lemmas.Option.{same_Some}
@@ -25,6 +25,7 @@ use Rattle.p2p_net_tracker.specs.Stands.{ReleasesHeld, ConnectsReserved}
 use Rattle.p2p_net_channels.specs.Stands.{ChannelsStand}
 use Rattle.p2p_net_links.specs.declared.links.Links.{Links}
 use Rattle.p2p_net_node.specs.Places as place
+use Rattle.p2p_net_tracker.proofs.Answering.{may_answer, may_continue}
 use Rattle.p2p_net_tracker.proofs.Begins.{may_take}
 use Rattle.p2p_net_gates.proofs.ListenerChanges.{place_held}
 use Rattle.p2p_net_gates.proofs.Stops.{handshakes_held}
@@ -32,6 +33,7 @@ use Rattle.p2p_log_rules.specs.declared.row.Opening.{Opening}
 use Rattle.p2p_net_queues.specs.Tables as table
 use Rattle.p2p_net_links.specs.Stands.{LinksStand}
 use Rattle.p2p_net_node.specs.Places.{asked_node, or_first, node_asked, node_checking, linked_by, nodes_linked, node_of, other_of}
+use Rattle.p2p_net_node.proofs.AskedOf.{set_asked, subscription_asked}
 use Rattle.p2p_net_node.proofs.LinkedNodes.{opening_made}
 use Rattle.p2p_net_node.specs.Ready.{is_node_up, may_register, names_spawner, checks, asks_set, subscribes, may_ask, may_at, may_act, IsReady, MayPerform, names_dialer, names_listener, is_link, links_attempt}
 use Rattle.p2p_net_node.specs.Meetings.{meeting_of, MeetsThere}
@@ -370,6 +372,15 @@ ready_by configs log n (act.Stop by_start m) x here s released reserved fit may 
     no_more k held same = omega (arith, same)
 ready_by configs log n (act.SendStep conn m) x here s released reserved fit may = one_mailbox x.config fit
 ready_by configs log n (act.Tracker m) x here s released reserved fit may = λ started now. may_take configs log n now x.tracker (s.each place.tracker) released (reserved (lasts_started configs log n x s started))
+ready_by configs log n (act.Answer e) x here s released reserved fit may =
+    let question = set_asked configs log e may in
+    may_answer configs log n e x.tracker (s.each place.tracker) question.0 (question.1 ∙ ap (λ m. Some (act.Ask (ask.PeerSet question.0) m)) (sym here))
+ready_by configs log n (act.Next e) x here s released reserved fit may =
+    may_continue configs log n e x.tracker (s.each place.tracker)
+    (elim (subscription_asked configs log e may) [
+      | inl updates ↦ inl (updates ∙ ap (λ m. Some (act.Ask ask.Subscribe m)) (sym here))
+      | inr blocked ↦ inr (blocked ∙ ap (λ m. Some (act.Ask ask.Blocked m)) (sym here))
+    ])
 ready_by configs log n (act.Handshake e m) x here s released reserved fit may = λ there. place_held configs log n e x.listening (s.each place.listener) there
 ready_by configs log n _ x here s released reserved fit may = tt
 

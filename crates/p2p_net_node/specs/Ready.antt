@@ -15,6 +15,7 @@ use Rattle.p2p_log_rules.specs.Tracking.{key_cmp}
 use Rattle.p2p_tracker_mailbox.specs.Desk.{next_message}
 use Rattle.p2p_tracker.specs.Serving.{MayTake}
 use Rattle.p2p_net_links.specs.declared.links.Links.{Links}
+use Rattle.p2p_net_tracker.specs.Reading.{MayAnswer, MayRead}
 use Rattle.p2p_net_node.specs.Meetings.{meeting_of, MeetsThere}
 use Rattle.p2p_net_node.specs.Places.{node_of, other_of}
 use Rattle.p2p_net_node.specs.declared.meeting.Meeting.{Meeting}
@@ -98,7 +99,8 @@ may_ask log x r (act.Finish link ok) = links_attempt (slice_get log link)
 may_ask log x r (act.Cut link) = links_attempt (slice_get log link)
 may_ask log x r _ = true
 
--- the sizes of a node, where it is asked for an act, that its tracker may take what waits for it, and that its handshakes hold places
+-- the sizes of a node, where it is asked for an act, that its tracker may take what waits for it, that its oracle may be polled, and that
+-- its handshakes hold places
 abbrev pub IsReady : Act → Node → Type 0
 IsReady (act.Register c n rate) x = (x.stopped ≡ false → x.channels.total + capacity_by x rate < 2 ^ 64) × ((1 ≤ capacity_by x rate) × (is_quota rate ≡ true))
 IsReady (act.Start n) x =
@@ -109,6 +111,8 @@ IsReady (act.Start n) x =
 IsReady (act.Stop by_start n) x = IsStrictlySortedBy nat_cmp (keys_of x.listening.handshakes) → length x.listening.handshakes ≤ x.listening.actor.places.held
 IsReady (act.SendStep conn n) x = 1 ≤ x.config.mailbox_size
 IsReady (act.Tracker n) x = is_node_up x ≡ true → (now : ℕ) → IfSome (next_message x.tracker.mailbox.desk) (λ m. MayTake key_cmp x.tracker.actor.directory m now)
+IsReady (act.Answer e) x = MayAnswer (is_some (table.at x.tracker.answered e)) (table.at x.tracker.questions e) x.tracker.mailbox.desk
+IsReady (act.Next e) x = MayRead (table.at x.tracker.questions e) x.tracker.mailbox.desk
 IsReady (act.Handshake e n) x = is_some (table.at x.listening.handshakes e) ≡ true → 0 < x.listening.actor.places.held
 IsReady _ x = Unit {0}
 

@@ -1,11 +1,19 @@
 -- What those who asked a node's tracker take: the row is the log's, and the tracker stands for the log with that entry.
-use Rattle.std.proofs.Common.{◌≡◌, ℕ, ◌<◌, ◌≤◌, Bool, true, false, cond, List, [], ◌∷◌, ◌++◌, drop, length, refl, ap, sym, subst, ◌∙◌, arith, eq-eqb, length-append, append-nil, Option, Some, None}
-use Rattle.std.specs.Prelude.{filter, flat_map, slice_get, is_some, nat_lt, ◌==◌, ◌&&◌, ◌||◌, if◌then◌else◌}
+use Rattle.std.proofs.Common.{◌≡◌, ℕ, zero, suc, ◌<◌, ◌≤◌, Bool, true, false, cond, List, [], ◌∷◌, ◌++◌, drop, length, refl, ap, sym, subst, ◌∙◌, arith, eq-eqb, length-append, Option, Some, None, ◌⊎◌, inl, inr}
+use Rattle.std.specs.Prelude.{flat_map, slice_get, is_some, nat_lt, IsTrue, ◌==◌, ◌&&◌, ◌||◌, if◌then◌else◌}
+use Rattle.std.proofs.lemmas.List.{length-set}
 use Rattle.std.specs.BTreeMap.{is_at}
 use Rattle.std.specs.Ordering.{nat_cmp}
 use Rattle.std.proofs.lemmas.Bool.Decides.{nat_tests}
 use Rattle.std.proofs.lemmas.Option.{slice_get_past}
 use Rattle.p2p_log_rules.proofs.Bools.{and_false, or_true}
+use Rattle.p2p_base.specs.declared.key.Key.{Key}
+use Rattle.p2p_flow.specs.Provided.{unanswered, answered, given, is_open, answer_of}
+use Rattle.p2p_flow.specs.Provided.{Question as Posed}
+use Rattle.p2p_flow.specs.Subscribed.{next_item}
+use Rattle.p2p_flow.specs.declared.tracked.TrackedPeers.{TrackedPeers}
+use Rattle.p2p_tracker_mailbox.specs.Desk.{Desk, question_at, answer_taken, updates_at, update_taken, set_of, set_taken}
+use Rattle.p2p_tracker_mailbox.specs.Mailboxes.{with_desk}
 use Rattle.p2p_log.specs.declared.config.Config.{Config}
 use Rattle.p2p_log.specs.declared.queue.Queue.{Queue}
 use Rattle.p2p_log.specs.declared.queue.Queue.TheVariants as queue
@@ -17,27 +25,30 @@ use Rattle.p2p_log.specs.declared.asked.Asked.TheVariants as ask
 use Rattle.p2p_log.specs.declared.event.Act.{Act}
 use Rattle.p2p_log.specs.declared.event.Act.TheVariants as act
 use Rattle.p2p_log.specs.QueueCode.{same_queue}
-use Rattle.p2p_log.specs.Lines.{ended_item, line, placed, stands_in}
+use Rattle.p2p_log.specs.Lines.{ended_item, line}
 use Rattle.p2p_log.proofs.QueueNames.{queue_from_same}
 use Rattle.p2p_log_rules.specs.declared.row.Row.{Row}
 use Rattle.p2p_log_rules.specs.Effect.{entry_of}
-use Rattle.p2p_log_rules.specs.Facts.{is_stopped}
+use Rattle.p2p_log_rules.specs.Facts.{is_stopped, stops}
 use Rattle.p2p_log_rules.specs.Rows.{only}
 use Rattle.p2p_log_rules.proofs.Families.{kinds_of, are_apart}
+use Rattle.p2p_log_rules.proofs.Channels.{is_stopped-kept}
 use Rattle.p2p_log_rules.proofs.Handshakes.{handshake_kinds, handshakes_of-apart}
 use Rattle.p2p_log_rules.specs.Tracking.{asked_by}
 use Rattle.p2p_log_rules.specs.TrackerRows.{was_answered, oldest_row, none_next, answer_at, answer_by, answer_row, next_by, next_row}
 use Rattle.p2p_net_queues.specs.Board.{held}
 use Rattle.p2p_net_queues.specs.Tables as table
-use Rattle.p2p_net_queues.proofs.Going.{line-kept}
 use Rattle.p2p_net_queues.proofs.Tables.{lookup-insert_entry}
 use Rattle.p2p_net_tracker.specs.declared.question.Question.{Question}
 use Rattle.p2p_net_tracker.specs.declared.question.Question.TheVariants as question
+use Rattle.p2p_net_tracker.specs.declared.question.Ticket.{Ticket}
 use Rattle.p2p_net_tracker.specs.declared.tracker.Tracker.{Tracker}
-use Rattle.p2p_net_tracker.specs.Reading.{no_answer, no_more, read_first, Pops, ReadsFrom, OnlyAnswers, noted, ReadsAnswerBy, ReadsAnswer, AnswersBy, Answers, ContinuesBy, Continues}
+use Rattle.p2p_net_tracker.specs.AtDesk.{IsTicket, tickets_of, asked_for, AnswerStands, Rises, blocked_asked}
+use Rattle.p2p_net_tracker.specs.Reading.{answer_said, update_said, set_said, polled_row, MayRead, MayAnswer, Pops, ReadsFrom, noted, ReadsUpdate, ReadsSet, AnswersBy, Answers, ContinuesBy, Continues}
 use Rattle.p2p_net_tracker.specs.Stands.{asks_of, asks_at, AreFresh, is_told, TrackerStands}
-use Rattle.p2p_net_tracker.proofs.Changes.{LeavesMailbox, tracker_kept, TellsAsker, tracker_read}
+use Rattle.p2p_net_tracker.proofs.Changes.{same_tickets, HasDesk, tracker_frame, tracker_kept, line_left, TellsAsker, tracker_read}
 use Rattle.p2p_net_tracker.proofs.Ended.{may_end_here, no_end-act}
+use Rattle.p2p_net_tracker.proofs.Polls.{answer_row_is, update_row_is, set_row_is, answer_left, update_left, set_left}
 use Rattle.p2p_net_tracker.proofs.Facts.{asks_at-kept, fresh-longer, was_answered-kept}
 use Rattle.p2p_log_rules.proofs.Steps.{steps_tracker}
 use Rattle.p2p_log_rules.proofs.Answers.{takes_answer, was_answered-append}
@@ -52,72 +63,62 @@ asks-asked log n e a h = go (slice_get log e) h
     go (Some d) k = let same : d.event.act ≡ a = cc in ap (asks_of n) same
 
 module _ (configs : List Config) (log : List Entry) (at seed n : ℕ) (a : Act) (t u : Tracker) (r : Row) (s : TrackerStands configs log n t) (no_step : steps_tracker n a ≡ false) (no_ending : may_end_here n a ≡ false)
-    (no_admission : are_apart (kinds_of a) handshake_kinds ≡ true) where
+    (no_admission : are_apart (kinds_of a) handshake_kinds ≡ true) (no_stop : stops n a ≡ false) (no_question : asks_of n a ≡ None) where
   abbrev e : Entry
   e = entry_of (record { at = at; seed = seed; act = a }) r
 
   -- it moves nothing where it only answers
-  line_left : (rep : Reply) → r ≡ only rep → (q : Queue) → line (log ++ e ∷ []) q ≡ line log q
-  line_left rep is q =
-      line-kept log e q (ap (λ (k : Row). k.takes ++ flat_map ended_item k.ends) is)
-      ∙ (ap (λ (k : Row). line log q ++ filter (stands_in q) (placed (length log) 0 k.puts)) is ∙ append-nil (line log q))
-
-  pub leaves : (rep : Reply) → r ≡ only rep → LeavesMailbox log e n
-  leaves rep is = record {
-    no_step = no_step;
-    no_end = no_end-act n log e no_ending;
-    no_admission = handshakes_of-apart log e n no_admission;
-    mailbox = line_left rep is (queue.Tracker n);
-    dialer = line_left rep is (queue.Dialer n);
-    listener = line_left rep is (queue.Addresses n);
-    handshakes = λ k. line_left rep is (queue.Handshake n k);
-  }
+  only_left : (rep : Reply) → r ≡ only rep → (q : Queue) → line (log ++ e ∷ []) q ≡ line log q
+  only_left rep is = line_left log e (ap (λ (k : Row). k.takes) is) (ap (λ (k : Row). k.puts) is) (ap (λ (k : Row). k.ends) is)
 
   -- nothing is popped where nothing waits
-  popped_none : (q : Queue) → Pops q t u → is_told n q ≡ true → line log q ≡ [] → (p : Queue) → is_told n p ≡ true → held u.told p ≡ line log p
-  popped_none q pops own empty p here = pops p ∙ by (same_queue q p) refl
+  popped_none : (q : Queue) → Pops q t u → line log q ≡ [] → (p : Queue) → is_told n p ≡ true → held u.told p ≡ line log p
+  popped_none q pops empty p here = pops p ∙ by (same_queue q p) refl
     where
       by : (b : Bool) → same_queue q p ≡ b → (if b then drop 1 (held t.told p) else held t.told p) ≡ line log p
       by false is = s.told p here
       by true is = let none : line log p ≡ [] = ap (line log) (queue_from_same q p is) ∙ empty in ap (drop 1) (s.told p here ∙ none) ∙ sym none
 
-  -- it is answered with nothing, and these were asked and answered then
-  pub answered_stands : (rep : Reply) (questions_now : List (ℕ × Question)) (answered : List (ℕ × Bool)) → r ≡ only rep
-      → u ≡ record t { questions = questions_now; answered = answered; told = u.told }
-      → ((d : ℕ) → table.at questions_now d ≡ asks_at (log ++ e ∷ []) n d)
-      → ((d : ℕ) → asks_at (log ++ e ∷ []) n d ≡ Some question.PeerSet → is_some (table.at answered d) ≡ was_answered (log ++ e ∷ []) d)
-      → AreFresh (log ++ e ∷ []) answered → ((p : Queue) → is_told n p ≡ true → held u.told p ≡ line log p) → TrackerStands configs (log ++ e ∷ []) n u
-  answered_stands rep questions_now answered is same asked noted_all fresh holds =
+  -- it is as it was, and this is answered
+  pub still_stands : (rep : Reply) → r ≡ only rep → ((d : ℕ) → takes_answer d a rep ≡ false) → u ≡ t → TrackerStands configs (log ++ e ∷ []) n u
+  still_stands rep is none same =
+      let no_answer : (d : ℕ) → takes_answer d a r.reply ≡ false = λ d. ap (λ (k : Row). takes_answer d a k.reply) is ∙ none d in
+      subst (TrackerStands configs (log ++ e ∷ []) n) (sym same) (tracker_frame configs log e n t s (record {
+        no_step = no_step;
+        no_question = no_question;
+        no_answer = λ d wants. no_answer d;
+        no_late_answer = λ d past. no_answer d;
+        no_end = no_end-act n log e no_ending;
+        goes_on = is_stopped-kept log e n no_stop;
+        handshakes = handshakes_of-apart log e n no_admission;
+        mailbox = only_left rep is (queue.Tracker n);
+        told = λ p own. only_left rep is p;
+      }))
+
+  -- the oldest item of a queue is taken, or this is answered, with this desk, and with these answered then
+  pub read_stands : (empty : Reply) (q : Queue) (l : List Envelope) (desk : Desk Key) (noted_now : List (ℕ × Bool)) → line log q ≡ l → TellsAsker n q → r ≡ oldest_row empty l
+      → Pops q t u → u ≡ record t { mailbox = with_desk t.mailbox desk; answered = noted_now; told = u.told } → desk.messages ≡ t.mailbox.desk.messages
+      → HasDesk n t desk t.tickets t.questions noted_now u.told t.mailbox.desk.messages.items
+      → ((d : ℕ) → asks_at log n d ≡ Some question.PeerSet → is_some (table.at noted_now d) ≡ was_answered (log ++ e ∷ []) d) → AreFresh (log ++ e ∷ []) noted_now → TrackerStands configs (log ++ e ∷ []) n u
+  read_stands empty q [] desk noted_now none asker is pops same messages has noted_all fresh =
       subst (TrackerStands configs (log ++ e ∷ []) n) (sym same)
-      (tracker_kept configs log e n t u.told questions_now answered s (leaves rep is) asked noted_all fresh (λ p own. holds p own ∙ sym (line_left rep is p)))
-
-  module _ (no_question : asks_of n a ≡ None) where
-    -- nothing was asked
-    asked_still : (d : ℕ) → table.at t.questions d ≡ asks_at (log ++ e ∷ []) n d
-    asked_still d = s.asked d ∙ sym (asks_at-kept log e n d no_question)
-
-    -- nor answered
-    pub still_stands : (rep : Reply) → r ≡ only rep → ((d : ℕ) → takes_answer d a rep ≡ false) → u ≡ record t { told = u.told } → ((p : Queue) → is_told n p ≡ true → held u.told p ≡ line log p)
-        → TrackerStands configs (log ++ e ∷ []) n u
-    still_stands rep is none same holds =
-        let no_answer : (d : ℕ) → takes_answer d a r.reply ≡ false = λ d. ap (λ (k : Row). takes_answer d a k.reply) is ∙ none d in
-        answered_stands rep t.questions t.answered is same asked_still
-        (λ d wants. s.answered d (sym (asks_at-kept log e n d no_question) ∙ wants) ∙ sym (was_answered-kept log e d (no_answer d)))
-        (fresh-longer log e t.answered s.fresh (λ d past. no_answer d)) holds
-
-    -- the oldest item of a queue, or this, with these questions answered then
-    pub read_stands : (empty : Reply) (q : Queue) (l : List Envelope) (answered : List (ℕ × Bool)) → line log q ≡ l → TellsAsker n q → r ≡ oldest_row empty l
-        → Pops q t u → u ≡ record t { told = u.told; answered = answered }
-        → ((d : ℕ) → asks_at log n d ≡ Some question.PeerSet → is_some (table.at answered d) ≡ was_answered (log ++ e ∷ []) d) → AreFresh (log ++ e ∷ []) answered → TrackerStands configs (log ++ e ∷ []) n u
-    read_stands empty q [] answered none asker is pops same noted_all fresh =
-        answered_stands empty t.questions answered is same asked_still (λ d wants. noted_all d (sym (asks_at-kept log e n d no_question) ∙ wants)) fresh (popped_none q pops asker.own none)
-    read_stands empty q (x ∷ rest) answered first asker is pops same noted_all fresh =
-        tracker_read configs log e n t u q x rest answered s no_step no_question (no_end-act n log e no_ending) (handshakes_of-apart log e n no_admission)
-        (record { first = first; gone = ap (λ (k : Row). k.takes ++ flat_map ended_item k.ends) is }) (ap (λ (k : Row). k.puts) is) asker same noted_all fresh pops
-
-first_row : (empty : Reply) (held_there l : List Envelope) → held_there ≡ l → read_first empty (slice_get held_there 0) ≡ oldest_row empty l
-first_row empty h [] is = ap (λ k. read_first empty (slice_get k 0)) is
-first_row empty h (x ∷ l) is = ap (λ k. read_first empty (slice_get k 0)) is
+      (tracker_kept configs log e n t desk t.tickets t.questions noted_now u.told s
+      (record {
+        no_step = no_step;
+        no_end = no_end-act n log e no_ending;
+        no_admission = handshakes_of-apart log e n no_admission;
+        goes_on = is_stopped-kept log e n no_stop;
+        mailbox = only_left empty is (queue.Tracker n);
+        dialer = only_left empty is (queue.Dialer n);
+        listener = only_left empty is (queue.Addresses n);
+        handshakes = λ k. only_left empty is (queue.Handshake n k);
+      })
+      (same_tickets t.tickets) messages has
+      (λ d. s.asked d ∙ sym (asks_at-kept log e n d no_question)) (λ d wants. noted_all d (sym (asks_at-kept log e n d no_question) ∙ wants)) fresh
+      (λ p own. popped_none q pops none p own ∙ sym (only_left empty is p)))
+  read_stands empty q (x ∷ rest) desk noted_now first asker is pops same messages has noted_all fresh =
+      tracker_read configs log e n t u q x rest desk noted_now s no_step no_question (no_end-act n log e no_ending) (handshakes_of-apart log e n no_admission) (is_stopped-kept log e n no_stop)
+      (record { first = first; gone = ap (λ (k : Row). k.takes ++ flat_map ended_item k.ends) is }) (ap (λ (k : Row). k.puts) is) asker same messages has noted_all fresh pops
 
 -- ---- the answer to a question for a peer set
 
@@ -166,77 +167,203 @@ note_other l true e d h = lookup-insert_entry e d true l ∙ ap (λ b. cond b (S
     other : (e d : ℕ) → (e == d) ≡ false → is_at (nat_cmp d) e ≡ false
     other e d h = grind (arith, nat_tests)
 
-pub tracker_answers : (configs : List Config) (log : List Entry) (at seed n e index : ℕ) (t u : Tracker) (r : Row) → TrackerStands configs log n t → (stopped : Bool) → is_stopped log n ≡ stopped
-    → asked_by log e ≡ Some (act.Ask (ask.PeerSet index) n) → Answers stopped n e t u r
+-- what is told is what the oracle answered
+polled_reply : (said : Reply) (o : Option Envelope) → (polled_row said o).reply ≡ said
+polled_reply said None = refl
+polled_reply said (Some x) = refl
+
+-- what an event asked, and under which number it was given a ticket
+asked_ticket : (configs : List Config) (log : List Entry) (n e : ℕ) (kind : Question) (t : Tracker) → TrackerStands configs log n t → asks_at log n e ≡ Some kind
+    → (number : ℕ) × (table.at t.questions e ≡ Some (record { question = kind; number = number })) × IsTicket (tickets_of t.tickets kind) number e
+asked_ticket configs log n e kind t s asks = by (table.at t.questions e) refl (s.asked e ∙ asks)
+  where
+    by : (o : Option Ticket) → table.at t.questions e ≡ o → asked_for o ≡ Some kind → (number : ℕ) × (table.at t.questions e ≡ Some (record { question = kind; number = number })) × IsTicket (tickets_of t.tickets kind) number e
+    by None is h = cc
+    by (Some k) is h =
+        let kind_is : k.question ≡ kind = some_is h in
+        (k.number, is ∙ ap (λ q. Some (record { question = q; number = k.number })) kind_is, subst (λ q. IsTicket (tickets_of t.tickets q) k.number e) kind_is (s.tickets.events e k is))
+      where
+        some_is : Some k.question ≡ Some kind → k.question ≡ kind
+        some_is h = cc
+
+module _ (configs : List Config) (log : List Entry) (n e : ℕ) (t : Tracker) (s : TrackerStands configs log n t) where
+  -- what it asked of this node
+  asks_set : (index : ℕ) → asked_by log e ≡ Some (act.Ask (ask.PeerSet index) n) → asks_at log n e ≡ Some question.PeerSet
+  asks_set index asked = asks-asked log n e (act.Ask (ask.PeerSet index) n) asked ∙ ap (λ b. cond b (Some question.PeerSet) None) (eq-eqb n n refl)
+
+  asks_updates : asked_by log e ≡ Some (act.Ask ask.Subscribe n) → asks_at log n e ≡ Some question.Updates
+  asks_updates asked = asks-asked log n e (act.Ask ask.Subscribe n) asked ∙ ap (λ b. cond b (Some question.Updates) None) (eq-eqb n n refl)
+
+  asks_blocked : asked_by log e ≡ Some (act.Ask ask.Blocked n) → asks_at log n e ≡ Some question.Blocked
+  asks_blocked asked = asks-asked log n e (act.Ask ask.Blocked n) asked ∙ ap (λ b. cond b (Some question.Blocked) None) (eq-eqb n n refl)
+
+  -- the oracle may be polled for it
+  pub may_answer : (index : ℕ) → asked_by log e ≡ Some (act.Ask (ask.PeerSet index) n) → MayAnswer (is_some (table.at t.answered e)) (table.at t.questions e) t.mailbox.desk
+  may_answer index asked = by (is_some (table.at t.answered e)) refl
+    where
+      ticket : (number : ℕ) × (table.at t.questions e ≡ Some (record { question = question.PeerSet; number = number })) × IsTicket t.tickets.questions number e
+      ticket = asked_ticket configs log n e question.PeerSet t s (asks_set index asked)
+
+      open_question : (q : Posed (Option (TrackedPeers Key))) (b : Bool) (xs : List Envelope) → AnswerStands q b xs → b ≡ false → IsTrue (is_open q)
+      open_question unanswered b xs h none = refl
+      open_question (answered peers) b xs h none = refl
+      open_question given b xs h none = let both : true ≡ false = sym h ∙ none in cc
+
+      by : (b : Bool) → is_some (table.at t.answered e) ≡ b → MayAnswer b (table.at t.questions e) t.mailbox.desk
+      by true is = tt
+      by false is =
+          subst (λ o. MayRead o t.mailbox.desk) (sym ticket.1)
+          (open_question (question_at t.mailbox.desk ticket.0) (is_some (table.at t.answered e)) (held t.told (queue.PeerSet n e)) (s.polled.answers ticket.0 e ticket.2) is)
+
+  pub may_continue : (asked_by log e ≡ Some (act.Ask ask.Subscribe n)) ⊎ (asked_by log e ≡ Some (act.Ask ask.Blocked n)) → MayRead (table.at t.questions e) t.mailbox.desk
+  may_continue either = elim either [ inl updates ↦ of_updates updates | inr blocked ↦ of_blocked blocked ]
+    where
+      below : (xs : List ℕ) (k e : ℕ) → slice_get xs k ≡ Some e → k < length xs
+      below [] zero e h = cc
+      below [] (suc k) e h = cc
+      below (x ∷ xs) zero e h = first (length xs)
+        where
+          first : (l : ℕ) → 0 < suc l
+          first l = omega arith
+      below (x ∷ xs) (suc k) e h = next k (length xs) (below xs k e h)
+        where
+          next : (k l : ℕ) → k < l → suc k < suc l
+          next k l h = omega (arith, h)
+
+      of_updates : asked_by log e ≡ Some (act.Ask ask.Subscribe n) → MayRead (table.at t.questions e) t.mailbox.desk
+      of_updates asked =
+          let ticket = asked_ticket configs log n e question.Updates t s (asks_updates asked) in
+          subst (λ o. MayRead o t.mailbox.desk) (sym ticket.1) (subst (λ l. ticket.0 < l) (sym s.updates) (below t.tickets.updates ticket.0 e ticket.2))
+
+      of_blocked : asked_by log e ≡ Some (act.Ask ask.Blocked n) → MayRead (table.at t.questions e) t.mailbox.desk
+      of_blocked asked =
+          let ticket = asked_ticket configs log n e question.Blocked t s (asks_blocked asked) in
+          subst (λ o. MayRead o t.mailbox.desk) (sym ticket.1) (subst (λ l. ticket.0 < l) (sym s.sets) (below t.tickets.blocked ticket.0 e ticket.2))
+
+pub tracker_answers : (configs : List Config) (log : List Entry) (at seed n e index : ℕ) (t u : Tracker) (r : Row) → TrackerStands configs log n t → asked_by log e ≡ Some (act.Ask (ask.PeerSet index) n) → Answers n e t u r
     → (r ≡ answer_row log e) × TrackerStands configs (log ++ entry_of (record { at = at; seed = seed; act = act.Answer e }) r ∷ []) n u
-tracker_answers configs log at seed n e index t u r s stopped stops asked h =
-    by_taken (is_some (table.at t.answered e)) refl (subst (λ o. AnswersBy o stopped n e t u r) kind h)
+tracker_answers configs log at seed n e index t u r s asked h =
+    by_taken (is_some (table.at t.answered e)) refl (subst (λ o. AnswersBy (is_some (table.at t.answered e)) o n e t u r) ticket.1 h)
   where
     here : asks_at log n e ≡ Some question.PeerSet
-    here = asks-asked log n e (act.Ask (ask.PeerSet index) n) asked ∙ ap (λ b. cond b (Some question.PeerSet) None) (eq-eqb n n refl)
+    here = asks_set configs log n e t s index asked
 
-    kind : table.at t.questions e ≡ Some question.PeerSet
-    kind = s.asked e ∙ here
+    ticket : (number : ℕ) × (table.at t.questions e ≡ Some (record { question = question.PeerSet; number = number })) × IsTicket t.tickets.questions number e
+    ticket = asked_ticket configs log n e question.PeerSet t s here
 
     row_is : answer_row log e ≡ answer_at log n e
     row_is = ap (answer_by log e) asked
 
-    at_is : (b : Bool) → is_some (table.at t.answered e) ≡ b → answer_at log n e ≡ cond b (only reply.Gone) (oldest_row (no_answer stopped) (line log (queue.PeerSet n e)))
-    at_is b is =
-        ap (λ c. cond c (only reply.Gone) (oldest_row (no_answer (is_stopped log n)) (line log (queue.PeerSet n e)))) (sym (s.answered e here) ∙ is)
-        ∙ ap (λ c. cond b (only reply.Gone) (oldest_row (no_answer c) (line log (queue.PeerSet n e)))) stops
+    at_is : (b : Bool) → is_some (table.at t.answered e) ≡ b → answer_at log n e ≡ cond b (only reply.Gone) (oldest_row (cond (is_stopped log n) (reply.PeerSet None) reply.Pending) (line log (queue.PeerSet n e)))
+    at_is b is = ap (λ c. cond c (only reply.Gone) (oldest_row (cond (is_stopped log n) (reply.PeerSet None) reply.Pending) (line log (queue.PeerSet n e)))) (sym (s.answered e here) ∙ is)
 
-    by_taken : (b : Bool) → is_some (table.at t.answered e) ≡ b → ReadsAnswer stopped n e t u r
-        → (r ≡ answer_row log e) × TrackerStands configs (log ++ entry_of (record { at = at; seed = seed; act = act.Answer e }) r ∷ []) n u
-    by_taken true is reads =
-        let only_gone : OnlyAnswers reply.Gone t u r = subst (λ b. ReadsAnswerBy b stopped n e t u r) is reads in (
-          only_gone.0 ∙ sym (row_is ∙ at_is true is),
-          still_stands configs log at seed n (act.Answer e) t u r s refl refl refl refl reply.Gone only_gone.0 (λ d. no_answer_gone d e) (only_gone.1 ∙ ap (λ (k : Tracker). record t { told = k.told }) (sym only_gone.1))
-              (λ p own. ap (λ (k : Tracker). held k.told p) only_gone.1 ∙ s.told p own),
-        )
+    Done : Type 0
+    Done = (r ≡ answer_row log e) × TrackerStands configs (log ++ entry_of (record { at = at; seed = seed; act = act.Answer e }) r ∷ []) n u
+
+    by_taken : (b : Bool) → is_some (table.at t.answered e) ≡ b → AnswersBy b (Some (record { question = question.PeerSet; number = ticket.0 })) n e t u r → Done
+    by_taken true is only_gone = (
+      only_gone.0 ∙ sym (row_is ∙ at_is true is),
+      still_stands configs log at seed n (act.Answer e) t u r s refl refl refl refl refl reply.Gone only_gone.0 (λ d. no_answer_gone d e) only_gone.1,
+    )
     by_taken false is reads =
         let q = queue.PeerSet n e in
-        let taking : ReadsAnswerBy false stopped n e t u r = subst (λ b. ReadsAnswerBy b stopped n e t u r) is reads in
-        let first : r ≡ oldest_row (no_answer stopped) (line log q) = taking.0 ∙ first_row (no_answer stopped) (held t.told q) (line log q) (s.told q (eq-eqb n n refl)) in
-        let entry = entry_of (record { at = at; seed = seed; act = act.Answer e }) r in (
+        let d = t.mailbox.desk in
+        let said = answer_said (answer_of d.messages.closed (question_at d ticket.0)) in
+        let entry = entry_of (record { at = at; seed = seed; act = act.Answer e }) r in
+        let waits : held t.told q ≡ line log q = s.told q (eq-eqb n n refl) in
+        let first : r ≡ oldest_row (cond (is_stopped log n) (reply.PeerSet None) reply.Pending) (line log q) =
+        reads.0.0
+        ∙ (answer_row_is (question_at d ticket.0) (is_some (table.at t.answered e)) d.messages.closed (held t.told q) (s.polled.answers ticket.0 e ticket.2) is
+        ∙ (ap (λ c. oldest_row (cond c (reply.PeerSet None) reply.Pending) (held t.told q)) s.closed ∙ ap (oldest_row (cond (is_stopped log n) (reply.PeerSet None) reply.Pending)) waits))
+        in
+        let said_is : r.reply ≡ said = ap (λ (k : Row). k.reply) reads.0.0 ∙ polled_reply said (slice_get (held t.told q) 0) in
+        let now = noted (is_peer_set said) e t.answered in (
           first ∙ sym (row_is ∙ at_is false is),
-          read_stands configs log at seed n (act.Answer e) t u r s refl refl refl refl (no_answer stopped) q (line log q) (noted (is_peer_set r.reply) e t.answered) refl
-              (record { own = eq-eqb n n refl; no_dialer = refl; no_listener = refl; no_handshake = λ k. refl }) first taking.1.0 taking.1.1
-              (λ d wants. note_taken t.answered (was_answered log d) (is_peer_set r.reply) e d (s.answered d wants) ∙ sym (was_answered-append log entry d))
-              (λ d past.
+          read_stands configs log at seed n (act.Answer e) t u r s refl refl refl refl refl (cond (is_stopped log n) (reply.PeerSet None) reply.Pending) q (line log q) (answer_taken d ticket.0) now refl
+              (record { own = eq-eqb n n refl; no_dialer = refl; no_listener = refl; no_handshake = λ k. refl }) first reads.0.1.0
+              (reads.0.1.1 ∙ ap (λ l. record t { mailbox = with_desk t.mailbox (answer_taken d ticket.0); answered = l; told = u.told }) reads.1) refl
+              (record {
+                questions = length-set d.questions ticket.0 _ ∙ s.questions;
+                updates = s.updates;
+                sets = s.sets;
+                rises = s.rises;
+                tickets = s.tickets;
+                polled = answer_left n t.tickets t.questions s.tickets t.answered (held t.told) (held u.told) d s.polled e ticket.0 ticket.2 is s.questions reads.0.1.0;
+              })
+              (λ i wants.
+              ap (λ b. is_some (table.at (noted b e t.answered) i)) (ap is_peer_set (sym said_is))
+              ∙ (note_taken t.answered (was_answered log i) (is_peer_set r.reply) e i (s.answered i wants) ∙ sym (was_answered-append log entry i)))
+              (λ i past.
               let long = length-append log (entry ∷ []) in
-              let before : length log ≤ d = omega (arith, long) in
-              let other : (e == d) ≡ false = apart e d (length log) (asked_before log e (act.Ask (ask.PeerSet index) n) asked) before in
-              let was = s.fresh d before in (
-                note_other t.answered (is_peer_set r.reply) e d other ∙ was.0,
-                was_answered-append log entry d ∙ (ap (λ b. b || ((e == d) && is_peer_set r.reply)) was.1 ∙ ap (λ b. b && is_peer_set r.reply) other),
+              let before : length log ≤ i = omega (arith, long) in
+              let other : (e == i) ≡ false = apart e i (length log) (asked_before log e (act.Ask (ask.PeerSet index) n) asked) before in
+              let was = s.fresh i before in (
+                note_other t.answered (is_peer_set said) e i other ∙ was.0,
+                was_answered-append log entry i ∙ (ap (λ b. b || ((e == i) && is_peer_set r.reply)) was.1 ∙ ap (λ b. b && is_peer_set r.reply) other),
               )),
         )
 
 -- ---- what comes next for a subscription
 
-module _ (configs : List Config) (log : List Entry) (at seed n e : ℕ) (t u : Tracker) (r : Row) (s : TrackerStands configs log n t) (stopped : Bool) (stops : is_stopped log n ≡ stopped) where
-  reads_on : (q : Queue) → TellsAsker n q → ReadsFrom (no_more stopped) q t u r
-      → (r ≡ oldest_row (none_next log n) (line log q)) × TrackerStands configs (log ++ entry_of (record { at = at; seed = seed; act = act.Next e }) r ∷ []) n u
-  reads_on q asker reads =
-      let first : r ≡ oldest_row (no_more stopped) (line log q) = reads.0 ∙ first_row (no_more stopped) (held t.told q) (line log q) (s.told q asker.own) in
-      let entry = entry_of (record { at = at; seed = seed; act = act.Next e }) r in (
-        first ∙ ap (λ b. oldest_row (no_more b) (line log q)) (sym stops),
-        read_stands configs log at seed n (act.Next e) t u r s refl refl refl refl (no_more stopped) q (line log q) t.answered refl asker first reads.1.0 reads.1.1
-            (λ d wants. s.answered d wants ∙ sym (was_answered-kept log entry d refl))
-            (fresh-longer log entry t.answered s.fresh (λ d past. refl)),
+module _ (configs : List Config) (log : List Entry) (at seed n e : ℕ) (t u : Tracker) (r : Row) (s : TrackerStands configs log n t) where
+  abbrev d : Desk Key
+  d = t.mailbox.desk
+
+  abbrev entry : Entry
+  entry = entry_of (record { at = at; seed = seed; act = act.Next e }) r
+
+  reads_on : (q : Queue) (desk : Desk Key) (said : Reply) → TellsAsker n q → ReadsFrom q said desk t u r → u.answered ≡ t.answered → desk.messages ≡ d.messages
+      → polled_row said (slice_get (held t.told q) 0) ≡ oldest_row (cond d.messages.closed reply.StreamEnded reply.Pending) (held t.told q)
+      → HasDesk n t desk t.tickets t.questions t.answered u.told d.messages.items
+      → (r ≡ oldest_row (none_next log n) (line log q)) × TrackerStands configs (log ++ entry ∷ []) n u
+  reads_on q desk said asker reads still messages row has =
+      let first : r ≡ oldest_row (none_next log n) (line log q) =
+      reads.0
+      ∙ (row ∙ (ap (λ c. oldest_row (cond c reply.StreamEnded reply.Pending) (held t.told q)) s.closed ∙ ap (oldest_row (none_next log n)) (s.told q asker.own)))
+      in (
+        first,
+        read_stands configs log at seed n (act.Next e) t u r s refl refl refl refl refl (none_next log n) q (line log q) desk t.answered refl asker first reads.1.0
+            (reads.1.1 ∙ ap (λ l. record t { mailbox = with_desk t.mailbox desk; answered = l; told = u.told }) still) messages has
+            (λ i wants. s.answered i wants ∙ sym (was_answered-kept log entry i refl))
+            (fresh-longer log entry t.answered s.fresh (λ i past. refl)),
       )
 
-  pub tracker_updates : asked_by log e ≡ Some (act.Ask ask.Subscribe n) → Continues stopped n e t u r
-      → (r ≡ next_row log e) × TrackerStands configs (log ++ entry_of (record { at = at; seed = seed; act = act.Next e }) r ∷ []) n u
+  pub tracker_updates : asked_by log e ≡ Some (act.Ask ask.Subscribe n) → Continues n e t u r → (r ≡ next_row log e) × TrackerStands configs (log ++ entry ∷ []) n u
   tracker_updates asked h =
-      let kind : table.at t.questions e ≡ Some question.Updates = s.asked e ∙ (asks-asked log n e (act.Ask ask.Subscribe n) asked ∙ ap (λ b. cond b (Some question.Updates) None) (eq-eqb n n refl)) in
-      let done = reads_on (queue.PeerSetUpdates n e) (record { own = eq-eqb n n refl; no_dialer = refl; no_listener = refl; no_handshake = λ k. refl }) (subst (λ o. ContinuesBy o stopped n e t u r) kind h) in
+      let q = queue.PeerSetUpdates n e in
+      let ticket = asked_ticket configs log n e question.Updates t s (asks_updates configs log n e t s asked) in
+      let number = ticket.0 in
+      let reads : ReadsUpdate n e number t u r = subst (λ o. ContinuesBy o n e t u r) ticket.1 h in
+      let done =
+      reads_on q (update_taken d number) (update_said (next_item d.messages.closed (slice_get (updates_at d number) 0))) (record { own = eq-eqb n n refl; no_dialer = refl; no_listener = refl; no_handshake = λ k. refl }) reads.0 reads.1 refl
+      (update_row_is (updates_at d number) d.messages.closed (held t.told q) (s.polled.updates number e ticket.2))
+      (record {
+        questions = s.questions;
+        updates = length-set d.updates number _ ∙ s.updates;
+        sets = s.sets;
+        rises = s.rises;
+        tickets = s.tickets;
+        polled = update_left n t.tickets t.questions s.tickets t.answered (held t.told) (held u.told) d s.polled e number ticket.2 s.updates reads.0.1.0;
+      })
+      in
       (done.0 ∙ sym (ap (next_by log e) asked), done.1)
 
-  pub tracker_sets : asked_by log e ≡ Some (act.Ask ask.Blocked n) → Continues stopped n e t u r
-      → (r ≡ next_row log e) × TrackerStands configs (log ++ entry_of (record { at = at; seed = seed; act = act.Next e }) r ∷ []) n u
+  pub tracker_sets : asked_by log e ≡ Some (act.Ask ask.Blocked n) → Continues n e t u r → (r ≡ next_row log e) × TrackerStands configs (log ++ entry ∷ []) n u
   tracker_sets asked h =
-      let kind : table.at t.questions e ≡ Some question.Blocked = s.asked e ∙ (asks-asked log n e (act.Ask ask.Blocked n) asked ∙ ap (λ b. cond b (Some question.Blocked) None) (eq-eqb n n refl)) in
-      let done = reads_on (queue.Blocked n e) (record { own = eq-eqb n n refl; no_dialer = refl; no_listener = refl; no_handshake = λ k. refl }) (subst (λ o. ContinuesBy o stopped n e t u r) kind h) in
+      let q = queue.Blocked n e in
+      let ticket = asked_ticket configs log n e question.Blocked t s (asks_blocked configs log n e t s asked) in
+      let number = ticket.0 in
+      let reads : ReadsSet n e number t u r = subst (λ o. ContinuesBy o n e t u r) ticket.1 h in
+      let done =
+      reads_on q (set_taken d number) (set_said (next_item d.messages.closed (set_of d number))) (record { own = eq-eqb n n refl; no_dialer = refl; no_listener = refl; no_handshake = λ k. refl }) reads.0 reads.1 refl
+      (set_row_is (set_of d number) d.messages.closed (held t.told q) (s.polled.sets number e ticket.2))
+      (record {
+        questions = s.questions;
+        updates = s.updates;
+        sets = length-set d.sets number _ ∙ s.sets;
+        rises = subst (λ l. Rises 0 l (t.actor.sets ++ flat_map blocked_asked d.messages.items)) (sym (length-set d.sets number None)) s.rises;
+        tickets = s.tickets;
+        polled = set_left n t.tickets t.questions s.tickets t.answered (held t.told) (held u.told) d s.polled e number ticket.2 s.sets reads.0.1.0;
+      })
+      in
       (done.0 ∙ sym (ap (next_by log e) asked), done.1)

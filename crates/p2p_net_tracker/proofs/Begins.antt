@@ -1,6 +1,6 @@
 -- A new tracker stands for no entry, and what waits for one that stands may be taken.
-use Rattle.std.proofs.Common.{◌≡◌, ℕ, Bool, true, false, cond, List, [], ◌∷◌, map, length, refl, ap, sym, subst, ◌∙◌, Option, Some, None}
-use Rattle.std.specs.Prelude.{slice_get, is_some, IfSome, not, ◌&&◌, ◌||◌, ◌==◌}
+use Rattle.std.proofs.Common.{◌≡◌, ℕ, zero, suc, ◌≤◌, Bool, true, false, cond, List, [], ◌∷◌, ◌++◌, map, length, refl, ap, sym, subst, ◌∙◌, arith, Option, Some, None}
+use Rattle.std.specs.Prelude.{flat_map, slice_get, is_some, IfSome, not, ◌&&◌, ◌||◌, ◌==◌}
 use Rattle.std.specs.BTreeMap.{is_at}
 use Rattle.std.specs.List.{list_any, IsDistinct}
 use Rattle.std.specs.Map.{lookup}
@@ -37,10 +37,14 @@ use Rattle.p2p_log_rules.specs.Handshakes.{is_handshaking}
 use Rattle.p2p_log_rules.specs.Told.{told}
 use Rattle.p2p_log_rules.specs.Tracking.{key_cmp, tracker_rules_of, no_rules, rules_at, calls_of, update_subscriptions, blocked_subscriptions}
 use Rattle.p2p_log_rules.specs.TrackerRows.{was_answered}
+use Rattle.p2p_log_rules.proofs.Channels.{is_stopped-none}
 use Rattle.p2p_log_rules.proofs.Handshakes.{handshakes_of-none}
 use Rattle.p2p_net_queues.specs.Board.{held}
 use Rattle.p2p_net_queues.specs.Tables as table
 use Rattle.p2p_net_tracker.specs.declared.tracker.Tracker.{Tracker}
+use Rattle.p2p_net_tracker.specs.AtDesk.{tickets_of, asked_for, queue_for, Rises, blocked_asked}
+use Rattle.p2p_net_tracker.specs.declared.question.Question.{Question}
+use Rattle.p2p_net_tracker.specs.declared.question.Question.TheVariants as question
 use Rattle.p2p_net_tracker.specs.Begins.{IsNew}
 use Rattle.p2p_net_tracker.specs.GivenBack.{IsGivenBack}
 use Rattle.p2p_net_tracker.specs.Heeding.{is_noted}
@@ -88,7 +92,7 @@ tracker_new configs n c t is h =
       works = ap (λ (a : Tracking Key). a.has_failed) h.actor;
       local = h.local ∙ sym (ap (λ (o : Option Config). elim o [ None ↦ record { 0 = 0 } | Some d ↦ d.public_key ]) is);
       most = h.most ∙ sym (ap (λ (o : Option Config). elim o [ None ↦ 0 | Some d ↦ d.max_peers_per_set ]) is);
-      is_open = ap (λ (m : Mailbox Key). m.desk.messages.closed) h.mailbox;
+      closed = ap (λ (m : Mailbox Key). m.desk.messages.closed) h.mailbox ∙ sym (is_stopped-none n);
       size = ap (λ (m : Mailbox Key). m.desk.messages.capacity) h.mailbox ∙ sym (ap (λ (o : Option Config). elim o [ None ↦ 0 | Some d ↦ d.mailbox_size ]) is);
       names = h.names ∙ sym (ap (λ l. map name_of l) (no_line (queue.Tracker n)));
       messages = subst (λ l. Match (λ x m. IsMessage t.tickets [] x.item m) l t.mailbox.desk.messages.items) (sym (no_line (queue.Tracker n)))
@@ -100,7 +104,13 @@ tracker_new configs n c t is h =
       sets = ap (λ (m : Mailbox Key). length m.desk.sets) h.mailbox ∙ sym (ap (λ (k : Tickets). length k.blocked) h.tickets);
       subscribed = subst (Match (IsTicket t.tickets.updates) t.actor.updates) (sym (no_updates n)) (subst (λ l. Match (IsTicket t.tickets.updates) l []) (sym (ap (λ (a : Tracking Key). a.updates) h.actor)) tt);
       subscribed_blocked = subst (Match (IsTicket t.tickets.blocked) t.actor.sets) (sym (no_sets n)) (subst (λ l. Match (IsTicket t.tickets.blocked) l []) (sym (ap (λ (a : Tracking Key). a.sets) h.actor)) tt);
-      asked = λ d. ap (λ l. table.at l d) h.questions;
+      rises = subst (λ (m : Mailbox Key). Rises 0 (length m.desk.sets) (t.actor.sets ++ flat_map blocked_asked m.desk.messages.items)) (sym h.mailbox)
+          (subst (λ (a : Tracking Key). Rises 0 0 (a.sets ++ [])) (sym h.actor) none_rise);
+      tickets = record {
+        events = λ e k has. let none : None ≡ Some k = sym (ap (λ l. table.at l e) h.questions) ∙ has in cc;
+        numbers = λ kind k e has. absurd (no_ticket kind k e has);
+      };
+      asked = λ d. ap (λ l. asked_for (table.at l d)) h.questions;
       answered = λ d is. cc;
       fresh = λ d past. (ap (λ l. table.at l d) h.answered, none_answered d);
       ended = λ conn. ap (λ l. is_noted l conn) h.ended ∙ sym (is_ended-none n conn);
@@ -111,8 +121,26 @@ tracker_new configs n c t is h =
           subst (λ (m : Mailbox Key). HandshakeStands (line_of m.handshakes k) (is_handshaking [] n k) (line [] (queue.Handshake n k))) (sym h.mailbox)
           (ap (list_any (λ j. k == j)) (handshakes_of-none n), no_line (queue.Handshake n k));
       distinct = subst AreDistinct (sym (ap (λ (m : Mailbox Key). m.handshakes) h.mailbox)) none_distinct;
+      polled = record {
+        answers = λ k e is. absurd (no_ticket question.PeerSet k e is);
+        updates = λ k e is. absurd (no_ticket question.Updates k e is);
+        sets = λ k e is. absurd (no_ticket question.Blocked k e is);
+        none = λ kind e no. h.told (queue_for n kind e);
+      };
       told = λ q own. h.told q ∙ sym (no_line q);
     }
+  where
+    none_rise : 0 ≤ 0
+    none_rise = omega arith
+
+    none_at : (k e : ℕ) → IsTicket [] k e → ⊥
+    none_at zero e is = cc
+    none_at (suc k) e is = cc
+
+    no_ticket : (kind : Question) (k e : ℕ) → IsTicket (tickets_of t.tickets kind) k e → ⊥
+    no_ticket question.PeerSet k e is = none_at k e (subst (λ (ts : Tickets). IsTicket ts.questions k e) h.tickets is)
+    no_ticket question.Updates k e is = none_at k e (subst (λ (ts : Tickets). IsTicket ts.updates k e) h.tickets is)
+    no_ticket question.Blocked k e is = none_at k e (subst (λ (ts : Tickets). IsTicket ts.blocked k e) h.tickets is)
 
 -- a key that is held, and another's, has a record that says so, or none
 held_record : (rules : Rules Key) (calls : List (Call Key)) (key : Key) → is_held key_cmp calls key ≡ true → is_local key_cmp rules key ≡ false → is_held_or_unknown (record_of key_cmp rules calls key) ≡ true

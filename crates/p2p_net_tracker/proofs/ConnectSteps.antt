@@ -16,6 +16,7 @@ use Rattle.p2p_log.specs.Lines.{ended_item, goes, line, placed, stands_in}
 use Rattle.p2p_log.proofs.Queues.{same_queue-refl}
 use Rattle.p2p_log_rules.specs.Effect.{begin_row, entry_of}
 use Rattle.p2p_log_rules.specs.Connections.{ends_connection}
+use Rattle.p2p_log_rules.specs.Facts.{is_stopped, stops}
 use Rattle.p2p_log_rules.specs.Handshakes.{handshakes_of}
 use Rattle.p2p_log_rules.proofs.Handshakes.{handshakes_of-apart}
 use Rattle.p2p_net_queues.proofs.Going.{put_in, line-kept}
@@ -35,8 +36,10 @@ pub record Connects (log : List Entry) (e : Entry) (n conn : ℕ) (peer : Key) :
   pub no_step : steps_tracker n e.event.act ≡ false
   pub no_question : asks_of n e.event.act ≡ None
   pub no_answer : (d : ℕ) → takes_answer d e.event.act e.reply ≡ false
+  pub goes_on : stops n e.event.act ≡ false
   pub no_end : (conn : ℕ) → ends_connection n conn log e ≡ false
   pub no_admission : handshakes_of (log ++ e ∷ []) n ≡ handshakes_of log n
+  pub lasts : is_stopped log n ≡ false
   pub takes : e.takes ≡ []
   pub puts : e.puts ≡ (queue.Tracker n, item.Connect conn peer) ∷ (queue.Router n, item.Ready conn peer) ∷ []
   pub ends : e.ends ≡ []
@@ -56,11 +59,12 @@ pub tracker_connected : (configs : List Config) (log : List Entry) (e : Entry) (
     → TrackerStands configs (log ++ e ∷ []) n (connected_by (length log) conn peer t)
 tracker_connected configs log e n conn peer t s q =
     let m : Message Key = message.Connect peer conn in
-    let grows = desk_grows t.mailbox.desk (Some m) s.is_open in
+    let grows = desk_grows t.mailbox.desk (Some m) (λ some. s.closed ∙ q.lasts) in
     tracker_moved configs log e n t (connected_by (length log) conn peer t) (x ∷ []) (m ∷ []) s (record {
       no_step = q.no_step;
       no_question = q.no_question;
       no_answer = q.no_answer;
+      goes_on = q.goes_on;
       ended = noted_stay log e n t.ended s.ended q.no_end;
       rest = refl;
       items = grows.items;
@@ -69,9 +73,11 @@ tracker_connected configs log e n conn peer t s q =
       questions = grows.questions;
       updates = grows.updates;
       sets = grows.sets;
+      none_asked = refl;
       each = (refl, tt);
       given = (tt, tt);
       waits = line-kept log e (queue.Tracker n) none ∙ ap (λ l. line log (queue.Tracker n) ++ l) waits;
+      asked_told = λ p asked. refl;
       dialer = subst (λ l. Match (λ y a. IsAnswer y.item a) l t.mailbox.dialer) (sym (same (queue.Dialer n) (eq-eqb n n refl))) s.dialer;
       heard = subst (HeardStands t.mailbox.heard) (sym (same (queue.Addresses n) (eq-eqb n n refl))) s.heard;
       handshakes = handshaking-kept log e n t.mailbox.handshakes q.no_admission (λ k. same (queue.Handshake n k) (eq-eqb n n refl)) s.handshakes;
@@ -102,9 +108,9 @@ tracker_connected configs log e n conn peer t s q =
     same p own = line-kept log e p none ∙ (ap (λ l. line log p ++ l) (quiet p own) ∙ append-nil (line log p))
 
 -- and so where a step of its sending half begins it
-pub tracker_begun : (configs : List Config) (log : List Entry) (at seed n conn : ℕ) (peer : Key) (t : Tracker) → TrackerStands configs log n t
+pub tracker_begun : (configs : List Config) (log : List Entry) (at seed n conn : ℕ) (peer : Key) (t : Tracker) → TrackerStands configs log n t → is_stopped log n ≡ false
     → TrackerStands configs (log ++ entry_of (record { at = at; seed = seed; act = act.SendStep conn n }) (begin_row n conn peer) ∷ []) n (connected_by (length log) conn peer t)
-tracker_begun configs log at seed n conn peer t s =
+tracker_begun configs log at seed n conn peer t s lasts =
     let e = entry_of (record { at = at; seed = seed; act = act.SendStep conn n }) (begin_row n conn peer) in
     tracker_connected configs log e n conn peer t s
-    (record { no_step = refl; no_question = refl; no_answer = λ d. refl; no_end = no_end-reply n log e refl refl; no_admission = handshakes_of-apart log e n refl; takes = refl; puts = refl; ends = refl })
+    (record { no_step = refl; no_question = refl; no_answer = λ d. refl; goes_on = refl; no_end = no_end-reply n log e refl refl; no_admission = handshakes_of-apart log e n refl; lasts = lasts; takes = refl; puts = refl; ends = refl })

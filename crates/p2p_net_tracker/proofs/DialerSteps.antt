@@ -1,6 +1,6 @@
 -- A node's dialer takes an answer, or none, and asks something, or nothing: the tracker stands for the log with that entry.
 use Rattle.std.proofs.Common.{◌≡◌, ℕ, Bool, true, false, cond, List, [], ◌∷◌, ◌++◌, map, drop, length, refl, ap, sym, subst, ◌∙◌, append-nil, eq-eqb, None}
-use Rattle.std.specs.Prelude.{filter, ◌&&◌, if◌then◌else◌}
+use Rattle.std.specs.Prelude.{filter, ◌&&◌, if◌then◌else◌, flat_map}
 use Rattle.p2p_log_rules.proofs.Bools.{and_false}
 use Rattle.p2p_base.specs.declared.key.Key.{Key}
 use Rattle.p2p_tracker_mailbox.specs.declared.message.Message.{Message}
@@ -14,9 +14,11 @@ use Rattle.p2p_log.specs.Lines.{name_of, goes, line, live, stays, stands_in}
 use Rattle.p2p_log.proofs.QueueNames.{queue_from_same}
 use Rattle.p2p_log.proofs.Queues.{same_queue-refl}
 use Rattle.p2p_log_rules.specs.Connections.{ends_connection}
+use Rattle.p2p_log_rules.specs.Facts.{stops}
 use Rattle.p2p_log_rules.specs.Handshakes.{handshakes_of}
 use Rattle.p2p_net_queues.specs.Board.{held}
 use Rattle.p2p_net_queues.proofs.Going.{put_in, line-append, first_left}
+use Rattle.p2p_net_tracker.specs.AtDesk.{blocked_asked}
 use Rattle.p2p_net_tracker.specs.GivenBack.{IsGivenBack}
 use Rattle.p2p_net_tracker.specs.declared.tracker.Tracker.{Tracker}
 use Rattle.p2p_net_queues.specs.Matching.{Match}
@@ -25,6 +27,7 @@ use Rattle.p2p_net_tracker.proofs.Changes.{same_tickets, messages-longer}
 use Rattle.p2p_net_tracker.proofs.Ended.{noted_stay}
 use Rattle.p2p_net_tracker.proofs.Facts.{handshaking-kept}
 use Rattle.p2p_net_queues.proofs.Matching.{Match-drop}
+use Rattle.p2p_net_tracker.proofs.AtDesk.{polled_apart}
 use Rattle.p2p_net_tracker.proofs.Moved.{tracker_moved, by_place}
 use Rattle.p2p_net_tracker.proofs.ToldLines.{away_none}
 use Rattle.p2p_log_rules.proofs.Steps.{steps_tracker}
@@ -39,15 +42,17 @@ pub record DialerMoves (log : List Entry) (e : Entry) (n : ℕ) (t u : Tracker) 
   pub no_step : steps_tracker n e.event.act ≡ false
   pub no_question : asks_of n e.event.act ≡ None
   pub no_answer : (d : ℕ) → takes_answer d e.event.act e.reply ≡ false
+  pub goes_on : stops n e.event.act ≡ false
   pub no_end : (conn : ℕ) → ends_connection n conn log e ≡ false
   pub no_admission : handshakes_of (log ++ e ∷ []) n ≡ handshakes_of log n
   pub rest : u ≡ record t { mailbox = record t.mailbox { desk = u.mailbox.desk; dialer = u.mailbox.dialer }; names = t.names ++ map name_of xs; told = u.told }
   pub items : u.mailbox.desk.messages.items ≡ t.mailbox.desk.messages.items ++ ms
   pub closed : u.mailbox.desk.messages.closed ≡ t.mailbox.desk.messages.closed
   pub capacity : u.mailbox.desk.messages.capacity ≡ t.mailbox.desk.messages.capacity
-  pub questions : length u.mailbox.desk.questions ≡ length t.mailbox.desk.questions
-  pub updates : length u.mailbox.desk.updates ≡ length t.mailbox.desk.updates
-  pub sets : length u.mailbox.desk.sets ≡ length t.mailbox.desk.sets
+  pub questions : u.mailbox.desk.questions ≡ t.mailbox.desk.questions
+  pub updates : u.mailbox.desk.updates ≡ t.mailbox.desk.updates
+  pub sets : u.mailbox.desk.sets ≡ t.mailbox.desk.sets
+  pub none_asked : flat_map blocked_asked ms ≡ []
   pub each : Match (λ x m. IsMessage t.tickets log x.item m) xs ms
   pub given : Match (λ x m. IsGivenBack (log ++ e ∷ []) x.entry m) xs ms
   pub waits : line (log ++ e ∷ []) (queue.Tracker n) ≡ line log (queue.Tracker n) ++ xs
@@ -96,6 +101,7 @@ tracker_dialed configs log e n t u took xs ms s q =
       no_step = q.no_step;
       no_question = q.no_question;
       no_answer = q.no_answer;
+      goes_on = q.goes_on;
       ended = noted_stay log e n t.ended s.ended q.no_end;
       rest = refl;
       items = q.items;
@@ -104,9 +110,13 @@ tracker_dialed configs log e n t u took xs ms s q =
       questions = q.questions;
       updates = q.updates;
       sets = q.sets;
+      none_asked = q.none_asked;
       each = messages-longer t.tickets t.tickets (same_tickets t.tickets) log (e ∷ []) xs ms q.each;
       given = q.given;
       waits = q.waits;
+      asked_told = λ p asked.
+          q.told p
+          ∙ (ap (λ b. if took && b then drop 1 (held t.told p) else held t.told p) (polled_apart (queue.Dialer n) p asked refl) ∙ ap (λ b. if b then drop 1 (held t.told p) else held t.told p) (and_false took));
       dialer = subst (λ l. Match (λ x a. IsAnswer x.item a) l u.mailbox.dialer) (sym (q.lines (queue.Dialer n) (eq-eqb n n refl)))
           (subst (Match (λ (x : Envelope) a. IsAnswer x.item a) (cond (is_taken_of took n (queue.Dialer n)) (drop 1 (line log (queue.Dialer n))) (line log (queue.Dialer n)))) (sym q.answered)
           (subst (λ b. Match (λ (x : Envelope) a. IsAnswer x.item a) (cond b (drop 1 (line log (queue.Dialer n))) (line log (queue.Dialer n))) (cond took (drop 1 t.mailbox.dialer) t.mailbox.dialer))

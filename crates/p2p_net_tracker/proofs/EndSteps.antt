@@ -20,6 +20,7 @@ use Rattle.p2p_log.proofs.Queues.{same_queue-refl}
 use Rattle.p2p_log.proofs.QueueNames.{queue_from_same}
 use Rattle.p2p_log_rules.proofs.Connections.{half_act, ends_half}
 use Rattle.p2p_log_rules.specs.Connections.{is_end, ends_connection}
+use Rattle.p2p_log_rules.specs.Facts.{is_stopped, stops}
 use Rattle.p2p_log_rules.specs.Handshakes.{handshakes_of}
 use Rattle.p2p_net_queues.specs.Board.{held}
 use Rattle.p2p_net_queues.specs.Matching.{Match}
@@ -33,6 +34,7 @@ use Rattle.p2p_net_tracker.proofs.ConnectSteps.{router_apart}
 use Rattle.p2p_net_tracker.proofs.Ended.{noted_more}
 use Rattle.p2p_net_tracker.proofs.GivenBack.{given_now}
 use Rattle.p2p_net_tracker.proofs.Facts.{handshaking-kept}
+use Rattle.p2p_net_tracker.proofs.AtDesk.{polled_apart}
 use Rattle.p2p_net_tracker.proofs.Moved.{tracker_moved, desk_grows}
 use Rattle.p2p_log_rules.proofs.Steps.{steps_tracker}
 use Rattle.p2p_log_rules.proofs.Answers.{takes_answer}
@@ -42,12 +44,14 @@ pub record EndMoves (log : List Entry) (e : Entry) (n conn place : ℕ) (reserve
   pub no_step : steps_tracker n e.event.act ≡ false
   pub no_question : asks_of n e.event.act ≡ None
   pub no_answer : (d : ℕ) → takes_answer d e.event.act e.reply ≡ false
+  pub goes_on : stops n e.event.act ≡ false
   pub no_admission : handshakes_of (log ++ e ∷ []) n ≡ handshakes_of log n
   -- it ends this connection of the node, and no other
   pub ends : (c : ℕ) → ends_connection n c log e ≡ (c == conn)
   pub rest : u ≡ record (released_by (length log) place conn reserved t) { told = u.told }
   pub mailbox : line (log ++ e ∷ []) (queue.Tracker n) ≡ line log (queue.Tracker n) ++ told_release n (peer_of reserved) (length log) place ∷ []
   pub side : IsOfSide (side_freed_by log e) reserved
+  pub lasts : is_stopped log n ≡ false
   -- what the connection was told ends with it, and nothing else that the tracker told
   pub emptied : line (log ++ e ∷ []) (queue.Control n conn) ≡ []
   pub told : (p : Queue) → is_told n p ≡ true → same_queue (queue.Control n conn) p ≡ false → line (log ++ e ∷ []) p ≡ line log p
@@ -59,11 +63,12 @@ tracker_ended configs log e n conn place reserved t u s q =
     let now : Tracker = record (released_by (length log) place conn reserved t) { told = u.told } in
     let m : Message Key = message.Release reserved in
     let x : Envelope = told_release n (peer_of reserved) (length log) place in
-    let grows = desk_grows t.mailbox.desk (Some m) s.is_open in
+    let grows = desk_grows t.mailbox.desk (Some m) (λ some. s.closed ∙ q.lasts) in
     subst (TrackerStands configs (log ++ e ∷ []) n) (sym q.rest) (tracker_moved configs log e n t now (x ∷ []) (m ∷ []) s (record {
       no_step = q.no_step;
       no_question = q.no_question;
       no_answer = q.no_answer;
+      goes_on = q.goes_on;
       rest = refl;
       ended = noted_more log e n conn t.ended s.ended q.ends;
       items = grows.items;
@@ -72,9 +77,11 @@ tracker_ended configs log e n conn place reserved t u s q =
       questions = grows.questions;
       updates = grows.updates;
       sets = grows.sets;
+      none_asked = refl;
       each = ((reserved, refl, refl), tt);
       given = (given_now log e reserved q.side, tt);
       waits = q.mailbox;
+      asked_told = λ p asked. q.lines p ∙ ap (λ b. if b then [] else held t.told p) (polled_apart (queue.Control n conn) p asked refl);
       dialer = subst (λ l. Match (λ y a. IsAnswer y.item a) l t.mailbox.dialer) (sym (q.told (queue.Dialer n) (eq-eqb n n refl) refl)) s.dialer;
       heard = subst (HeardStands t.mailbox.heard) (sym (q.told (queue.Addresses n) (eq-eqb n n refl) refl)) s.heard;
       handshakes = handshaking-kept log e n t.mailbox.handshakes q.no_admission (λ k. q.told (queue.Handshake n k) (eq-eqb n n refl) refl) s.handshakes;

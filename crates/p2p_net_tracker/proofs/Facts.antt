@@ -51,7 +51,7 @@ asked_by-longer log more e a h = go (slice_get log e) refl h
 -- ---- questions and their answers
 
 -- past the end of the log nothing was asked
-asks_at-past : (log : List Entry) (n d : ℕ) → length log ≤ d → asks_at log n d ≡ None
+pub asks_at-past : (log : List Entry) (n d : ℕ) → length log ≤ d → asks_at log n d ≡ None
 asks_at-past log n d h = ap (λ (o : Option Entry). elim o [ None ↦ None | Some e ↦ asks_of n e.event.act ]) (slice_get_past log d h)
 
 pub asks_at-append : (log : List Entry) (e : Entry) (n d : ℕ) → asks_at (log ++ e ∷ []) n d ≡ cond (nat_lt d (length log)) (asks_at log n d) (cond (d == length log) (asks_of n e.event.act) None)

@@ -16,6 +16,7 @@ use Rattle.p2p_log.specs.declared.entry.Entry.{Entry}
 use Rattle.p2p_log.specs.QueueCode.{same_queue}
 use Rattle.p2p_log.specs.Lines.{line}
 use Rattle.p2p_log_rules.specs.Connections.{ends_connection}
+use Rattle.p2p_log_rules.specs.Facts.{stops}
 use Rattle.p2p_log_rules.specs.Handshakes.{handshakes_of, is_handshaking}
 use Rattle.p2p_net_queues.specs.Board.{held}
 use Rattle.p2p_net_tracker.specs.Finishing.{told_finished}
@@ -25,6 +26,7 @@ use Rattle.p2p_net_tracker.specs.Stands.{asks_of, is_told, IsAnswer, HeardStands
 use Rattle.p2p_net_tracker.proofs.Distinct.{distinct-with_line}
 use Rattle.p2p_net_tracker.proofs.Ended.{noted_stay}
 use Rattle.p2p_net_tracker.proofs.Hearing.{runs_is, item_told}
+use Rattle.p2p_net_tracker.proofs.AtDesk.{polled_apart}
 use Rattle.p2p_net_tracker.proofs.Moved.{tracker_moved, by_place}
 use Rattle.p2p_log_rules.proofs.Steps.{steps_tracker}
 use Rattle.p2p_log_rules.proofs.Answers.{takes_answer}
@@ -34,6 +36,7 @@ pub record FinishMoves (log : List Entry) (e : Entry) (n h place : ℕ) (ok : Bo
   pub no_step : steps_tracker n e.event.act ≡ false
   pub no_question : asks_of n e.event.act ≡ None
   pub no_answer : (d : ℕ) → takes_answer d e.event.act e.reply ≡ false
+  pub goes_on : stops n e.event.act ≡ false
   pub no_end : (conn : ℕ) → ends_connection n conn log e ≡ false
   pub names : handshakes_of (log ++ e ∷ []) n ≡ handshakes_of log n
   pub runs : is_handshaking log n h ≡ true
@@ -51,6 +54,7 @@ tracker_after_finish configs log e n h place ok t u s q =
       no_step = q.no_step;
       no_question = q.no_question;
       no_answer = q.no_answer;
+      goes_on = q.goes_on;
       ended = noted_stay log e n t.ended s.ended q.no_end;
       rest = ap (λ l. record now { names = l }) (sym (append-nil t.names));
       items = sym (append-nil t.mailbox.desk.messages.items);
@@ -59,9 +63,11 @@ tracker_after_finish configs log e n h place ok t u s q =
       questions = refl;
       updates = refl;
       sets = refl;
+      none_asked = refl;
       each = tt;
       given = tt;
       waits = q.mailbox ∙ sym (append-nil (line log (queue.Tracker n)));
+      asked_told = λ p asked. q.told p ∙ ap (λ b. if b then held t.told p ++ told_finished n h ok (length log) place ∷ [] else held t.told p) (polled_apart (queue.Handshake n h) p asked refl);
       dialer = subst (λ l. Match (λ y a. IsAnswer y.item a) l t.mailbox.dialer) (sym (q.lines (queue.Dialer n) (eq-eqb n n refl))) s.dialer;
       heard = subst (HeardStands t.mailbox.heard) (sym (q.lines (queue.Addresses n) (eq-eqb n n refl))) s.heard;
       handshakes = told_now;

@@ -1,6 +1,6 @@
 -- A step of a handshake of a node's listener takes the oldest of what it was told, or the handshake ends, and it may ask the tracker something: the tracker stands for the log with that entry.
 use Rattle.std.proofs.Common.{◌≡◌, ℕ, Bool, true, false, cond, List, [], ◌∷◌, ◌++◌, drop, length, refl, ap, sym, subst, ◌∙◌, arith, eq-eqb, Option, Some, None}
-use Rattle.std.specs.Prelude.{◌==◌, ◌&&◌, not, if◌then◌else◌}
+use Rattle.std.specs.Prelude.{◌==◌, ◌&&◌, not, if◌then◌else◌, flat_map}
 use Rattle.std.specs.BTreeMap.{is_at}
 use Rattle.std.specs.List.{list_any}
 use Rattle.std.specs.Option.{option_map}
@@ -22,9 +22,11 @@ use Rattle.p2p_log.specs.declared.entry.Entry.{Entry}
 use Rattle.p2p_log.specs.QueueCode.{same_queue}
 use Rattle.p2p_log.specs.Lines.{line}
 use Rattle.p2p_log_rules.specs.Connections.{ends_connection}
+use Rattle.p2p_log_rules.specs.Facts.{is_stopped, stops}
 use Rattle.p2p_log_rules.specs.Handshakes.{handshakes_of, is_handshaking}
 use Rattle.p2p_log_rules.proofs.Handshakes.{without_name, among-without}
 use Rattle.p2p_net_queues.specs.Board.{held}
+use Rattle.p2p_net_tracker.specs.AtDesk.{blocked_asked}
 use Rattle.p2p_net_tracker.specs.Dialed.{names_asked}
 use Rattle.p2p_net_tracker.specs.declared.tracker.Tracker.{Tracker}
 use Rattle.p2p_net_queues.specs.Matching.{Match}
@@ -32,6 +34,7 @@ use Rattle.p2p_net_tracker.specs.Stands.{asks_of, is_told, IsAnswer, HeardStands
 use Rattle.p2p_net_tracker.proofs.Distinct.{distinct-with_line}
 use Rattle.p2p_net_tracker.proofs.Ended.{noted_stay}
 use Rattle.p2p_net_queues.proofs.Matching.{Match-drop}
+use Rattle.p2p_net_tracker.proofs.AtDesk.{polled_apart}
 use Rattle.p2p_net_tracker.proofs.Moved.{tracker_moved, by_place, asked_line, names_are, asked_messages, asked_desk, IsAsked, asked_match, IsAskedBack, asked_back, desk_grows}
 use Rattle.p2p_log_rules.proofs.Steps.{steps_tracker}
 use Rattle.p2p_log_rules.proofs.Answers.{takes_answer}
@@ -50,11 +53,14 @@ pub record HandshakeMoves (log : List Entry) (e : Entry) (n h : ℕ) (t u : Trac
   pub no_step : steps_tracker n e.event.act ≡ false
   pub no_question : asks_of n e.event.act ≡ None
   pub no_answer : (d : ℕ) → takes_answer d e.event.act e.reply ≡ false
+  pub goes_on : stops n e.event.act ≡ false
   pub no_end : (conn : ℕ) → ends_connection n conn log e ≡ false
   pub names : handshakes_of (log ++ e ∷ []) n ≡ cond ended (without_name h (handshakes_of log n)) (handshakes_of log n)
   pub rest : u ≡ record t { mailbox = record t.mailbox { desk = asked_desk t.mailbox.desk put; handshakes = u.mailbox.handshakes }; names = t.names ++ names_asked (length log) asked; told = u.told }
   pub waiting : (k : ℕ) → line_of u.mailbox.handshakes k ≡ cond (k == h) (after_step ended (line_of t.mailbox.handshakes h)) (line_of t.mailbox.handshakes k)
   pub distinct : AreDistinct u.mailbox.handshakes
+  pub lasts : is_stopped log n ≡ false
+  pub none_asked : flat_map blocked_asked (asked_messages put) ≡ []
   pub says : IsAsked t.tickets (log ++ e ∷ []) asked put
   pub given : IsAskedBack (log ++ e ∷ []) (length log) put
   pub mailbox : line (log ++ e ∷ []) (queue.Tracker n) ≡ line log (queue.Tracker n) ++ asked_line n (length log) asked
@@ -76,11 +82,12 @@ pub tracker_after_handshake : (configs : List Config) (log : List Entry) (e : En
 tracker_after_handshake configs log e n h t u ended asked put s q =
     let now : Tracker =
     record t { mailbox = record t.mailbox { desk = asked_desk t.mailbox.desk put; handshakes = u.mailbox.handshakes }; names = t.names ++ names_asked (length log) asked; told = u.told } in
-    let grows = desk_grows t.mailbox.desk put s.is_open in
+    let grows = desk_grows t.mailbox.desk put (λ some. s.closed ∙ q.lasts) in
     subst (TrackerStands configs (log ++ e ∷ []) n) (sym q.rest) (tracker_moved configs log e n t now (asked_line n (length log) asked) (asked_messages put) s (record {
       no_step = q.no_step;
       no_question = q.no_question;
       no_answer = q.no_answer;
+      goes_on = q.goes_on;
       ended = noted_stay log e n t.ended s.ended q.no_end;
       rest = ap (λ l. record now { names = t.names ++ l }) (sym (names_are n (length log) asked));
       items = grows.items;
@@ -89,9 +96,11 @@ tracker_after_handshake configs log e n h t u ended asked put s q =
       questions = grows.questions;
       updates = grows.updates;
       sets = grows.sets;
+      none_asked = q.none_asked;
       each = asked_match t.tickets (log ++ e ∷ []) n (length log) asked put q.says;
       given = asked_back t.tickets (log ++ e ∷ []) (log ++ e ∷ []) n (length log) asked put q.says q.given;
       waits = q.mailbox;
+      asked_told = λ p asked. q.told p ∙ ap (λ b. if b then left_after ended (held t.told p) else held t.told p) (polled_apart (queue.Handshake n h) p asked refl);
       dialer = subst (λ l. Match (λ x a. IsAnswer x.item a) l t.mailbox.dialer) (sym (q.lines (queue.Dialer n) (eq-eqb n n refl))) s.dialer;
       heard = subst (HeardStands t.mailbox.heard) (sym (q.lines (queue.Addresses n) (eq-eqb n n refl))) s.heard;
       handshakes = told_now;

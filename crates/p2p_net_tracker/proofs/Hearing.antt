@@ -60,6 +60,7 @@ use Rattle.p2p_net_tracker.specs.Naming.{named_puts, event_at, listened_grant}
 use Rattle.p2p_net_tracker.specs.Stands.{Says, IsMessage, HeardStands, IsToldHandshake, HandshakeStands}
 use Rattle.p2p_net_tracker.proofs.Dialing.{IsDialed, AreDialed}
 use Rattle.p2p_net_tracker.proofs.Distinct.{keys-with_line}
+use Rattle.p2p_net_tracker.proofs.Puts.{each_kill, each_kills, each_overwrite}
 use Rattle.p2p_net_queues.proofs.Matching.{Match-last}
 use Rattle.p2p_net_tracker.proofs.Rings.{is_same, count-first}
 
@@ -145,14 +146,6 @@ once_if : (b : Bool) (xs : List (Put Key)) → HearsOnce xs → HearsOnce (cond 
 once_if true xs h = h
 once_if false xs h = tt
 
-aside_if : (b : Bool) (xs : List (Put Key)) → Each IsAside xs → Each IsAside (cond b xs [])
-aside_if true xs h = h
-aside_if false xs h = tt
-
-aside_kill : (k : Key) (o : Option ℕ) → Each IsAside (kill_put k o)
-aside_kill k None = tt
-aside_kill k (Some conn) = (tt, tt)
-
 aside_updates : (ts : List ℕ) (u : PeerSetUpdate Key) → Each IsAside (updates_put ts u)
 aside_updates [] u = tt
 aside_updates (t ∷ ts) u = (tt, aside_updates ts u)
@@ -166,19 +159,6 @@ aside_sets waiting [] keys = tt
 aside_sets waiting (t ∷ ts) keys = (tt, aside_sets (slice_set waiting t (Some keys)) ts keys)
 
 module _ (rules : Rules Key) where
-  aside_kills : (calls : List (Call Key)) (ks : List Key) → Each IsAside (kills_of key_cmp rules calls ks)
-  aside_kills calls [] = tt
-  aside_kills calls (k ∷ ks) =
-      Each-append IsAside (kill_put k (kept_of key_cmp rules calls k)) (kills_of key_cmp rules calls ks) (aside_kill k (kept_of key_cmp rules calls k)) (aside_kills calls ks)
-
-  aside_overwrites : (es : List (Key × Address)) (calls : List (Call Key)) → Each IsAside (overwrite_kills key_cmp rules es calls)
-  aside_overwrites [] calls = tt
-  aside_overwrites (e ∷ es) calls =
-      let kill = kill_put e.0 (kept_of key_cmp rules calls e.0) in
-      let more = call.Overwrite e.0 e.1 ∷ calls in
-      Each-append IsAside (cond (is_overwritten key_cmp rules calls e.0 e.1) kill []) (overwrite_kills key_cmp rules es more)
-      (aside_if (is_overwritten key_cmp rules calls e.0 e.1) kill (aside_kill e.0 (kept_of key_cmp rules calls e.0))) (aside_overwrites es more)
-
   module _ (updates sets : List ℕ) (waiting : List (Option (List Key))) (heard : Option (List IpAddr)) (runs : ℕ → Bool) (calls : List (Call Key)) (now : ℕ) where
     pub unblocked_once : (c : Call Key) → HearsOnce (unblocked key_cmp rules updates sets waiting heard calls now c)
     unblocked_once c = aside_sets waiting sets (blocked_keys key_cmp rules (c ∷ calls) now)
@@ -191,11 +171,11 @@ module _ (rules : Rules Key) where
         let one = heard_put key_cmp rules heard now (c ∷ calls) in
         let last = latest_update key_cmp rules (c ∷ calls) in
         once_if (is_above index (accepted_sets key_cmp calls)) (registered key_cmp rules updates sets waiting heard calls now c killed)
-        (then_aside (kills ++ one) (told_of_sets updates last) (aside_then kills one (aside_kills calls killed) tt) (aside_told updates last))
+        (then_aside (kills ++ one) (told_of_sets updates last) (aside_then kills one (each_kills IsAside (λ k conn. tt) rules calls killed) tt) (aside_told updates last))
     asked_once (ask.Overwrite peers) ticket =
         let one = heard_put key_cmp rules heard now (overwritten peers calls) in
         let others = has_any (overwritten_keys key_cmp rules peers calls) in
-        aside_then (overwrite_kills key_cmp rules peers calls) (cond others one []) (aside_overwrites peers calls) (once_if others one tt)
+        aside_then (overwrite_kills key_cmp rules peers calls) (cond others one []) (each_overwrite IsAside (λ k conn. tt) rules peers calls) (once_if others one tt)
     asked_once (ask.Block key) ticket =
         let c = call.Block key now in
         let new = is_blockable key_cmp rules calls key now in
@@ -203,7 +183,7 @@ module _ (rules : Rules Key) where
         let one = heard_put key_cmp rules heard now (c ∷ calls) in
         then_aside (cond new (sets_put waiting sets keys ++ one) []) (kill_put key (kept_of key_cmp rules calls key))
         (once_if new (sets_put waiting sets keys ++ one) (aside_then (sets_put waiting sets keys) one (aside_sets waiting sets keys) tt))
-        (aside_kill key (kept_of key_cmp rules calls key))
+        (each_kill IsAside (λ k conn. tt) key (kept_of key_cmp rules calls key))
     asked_once (ask.PeerSet index) ticket = tt
     asked_once ask.Subscribe ticket = aside_once (told_of_sets (ticket ∷ []) (latest_update key_cmp rules calls)) (aside_told (ticket ∷ []) (latest_update key_cmp rules calls))
     asked_once ask.Blocked ticket = tt

@@ -62,19 +62,19 @@ module _ (ended : ℕ → Bool) where
       by false rest = rest
   mailbox-late (p ∷ ps) m = mailbox-late ps (after_put p m)
 
-  -- whom it tells
-  aside-late : (ps : List (Put Key)) → Each IsAside ps → Each IsAside (without_late ended ps)
-  aside-late [] h = tt
-  aside-late (put.Kill peer conn ∷ ps) h = by (ended conn) (aside-late ps h.1)
+  -- what holds of each
+  pub each-late : (P : Put Key → Type 0) (ps : List (Put Key)) → Each P ps → Each P (without_late ended ps)
+  each-late P [] h = tt
+  each-late P (p ∷ ps) h = by (is_late ended p) (each-late P ps h.1)
     where
-      by : (b : Bool) → Each IsAside (without_late ended ps) → Each IsAside (cond b (without_late ended ps) (put.Kill peer conn ∷ without_late ended ps))
+      by : (b : Bool) → Each P (without_late ended ps) → Each P (cond b (without_late ended ps) (p ∷ without_late ended ps))
       by true rest = rest
-      by false rest = (tt, rest)
-  aside-late (p ∷ ps) h = (h.0, aside-late ps h.1)
+      by false rest = (h.0, rest)
 
+  -- whom it tells
   once-late : (ps : List (Put Key)) → HearsOnce ps → HearsOnce (without_late ended ps)
   once-late [] h = tt
-  once-late (put.Listenable addresses dropped ∷ ps) h = aside-late ps h
+  once-late (put.Listenable addresses dropped ∷ ps) h = each-late IsAside ps h
   once-late (put.Acceptable handshake acceptable ∷ ps) h = absurd h
   once-late (put.Listen handshake grant ∷ ps) h = absurd h
   once-late (put.Dial grant ∷ ps) h = (h.0, once-late ps h.1)

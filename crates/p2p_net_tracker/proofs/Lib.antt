@@ -1,4 +1,6 @@
 pub mod Answering
+pub mod AskedDesk
+pub mod AtDesk
 pub mod Begins
 pub mod Changes
 pub mod ConnectSteps
@@ -18,10 +20,14 @@ pub mod Leaves
 pub mod ListenerSteps
 pub mod Moved
 pub mod Named
+pub mod Polls
+pub mod Puts
 pub mod Questions
 pub mod Rings
 pub mod Serving
 pub mod StepLeft
+pub mod SetsOnce
 pub mod Steps
 pub mod Stopped
+pub mod Ticketed
 pub mod ToldLines

@@ -22,6 +22,7 @@ use Rattle.p2p_log.specs.QueueCode.{same_queue}
 use Rattle.p2p_log.specs.Lines.{line}
 use Rattle.p2p_log.proofs.Queues.{same_queue-refl}
 use Rattle.p2p_log_rules.specs.Connections.{ends_connection}
+use Rattle.p2p_log_rules.specs.Facts.{stops}
 use Rattle.p2p_log_rules.specs.Handshakes.{handshakes_of, is_handshaking, source_at}
 use Rattle.p2p_log_rules.proofs.Handshakes.{none_later}
 use Rattle.p2p_net_queues.specs.Board.{held}
@@ -33,6 +34,7 @@ use Rattle.p2p_net_tracker.proofs.Distinct.{distinct-begun}
 use Rattle.p2p_net_tracker.proofs.Ended.{noted_stay}
 use Rattle.p2p_net_tracker.proofs.Facts.{handshaking-kept}
 use Rattle.p2p_net_tracker.proofs.Hearing.{one_waits}
+use Rattle.p2p_net_tracker.proofs.AtDesk.{polled_apart}
 use Rattle.p2p_net_tracker.proofs.Moved.{tracker_moved, by_place}
 use Rattle.p2p_log_rules.proofs.Steps.{steps_tracker}
 use Rattle.p2p_log_rules.proofs.Answers.{takes_answer}
@@ -44,6 +46,7 @@ pub record UpdateMoves (log : List Entry) (e : Entry) (n : ℕ) (t u : Tracker) 
   pub no_step : steps_tracker n e.event.act ≡ false
   pub no_question : asks_of n e.event.act ≡ None
   pub no_answer : (d : ℕ) → takes_answer d e.event.act e.reply ≡ false
+  pub goes_on : stops n e.event.act ≡ false
   pub no_end : (conn : ℕ) → ends_connection n conn log e ≡ false
   pub no_admission : handshakes_of (log ++ e ∷ []) n ≡ handshakes_of log n
   pub rest : u ≡ record t { mailbox = record t.mailbox { heard = None }; told = u.told }
@@ -58,6 +61,7 @@ tracker_updated configs log e n t u s q =
       no_step = q.no_step;
       no_question = q.no_question;
       no_answer = q.no_answer;
+      goes_on = q.goes_on;
       ended = noted_stay log e n t.ended s.ended q.no_end;
       rest = ap (λ l. record now { names = l }) (sym (append-nil t.names));
       items = sym (append-nil t.mailbox.desk.messages.items);
@@ -66,9 +70,11 @@ tracker_updated configs log e n t u s q =
       questions = refl;
       updates = refl;
       sets = refl;
+      none_asked = refl;
       each = tt;
       given = tt;
       waits = q.mailbox ∙ sym (append-nil (line log (queue.Tracker n)));
+      asked_told = λ p asked. q.told p ∙ ap (λ b. if b then drop 1 (held t.told p) else held t.told p) (polled_apart (queue.Addresses n) p asked refl);
       dialer = subst (λ l. Match (λ x a. IsAnswer x.item a) l t.mailbox.dialer) (sym (q.lines (queue.Dialer n) (eq-eqb n n refl))) s.dialer;
       heard =
           q.lines (queue.Addresses n) (eq-eqb n n refl)
@@ -85,6 +91,7 @@ pub record AskMoves (log : List Entry) (e : Entry) (n : ℕ) (t u : Tracker) (ke
   pub no_step : steps_tracker n e.event.act ≡ false
   pub no_question : asks_of n e.event.act ≡ None
   pub no_answer : (d : ℕ) → takes_answer d e.event.act e.reply ≡ false
+  pub goes_on : stops n e.event.act ≡ false
   pub no_end : (conn : ℕ) → ends_connection n conn log e ≡ false
   pub admits : handshakes_of (log ++ e ∷ []) n ≡ handshakes_of log n ++ length log ∷ []
   pub source_is : source_at (log ++ e ∷ []) (length log) ≡ Some source
@@ -92,9 +99,9 @@ pub record AskMoves (log : List Entry) (e : Entry) (n : ℕ) (t u : Tracker) (ke
   pub items : u.mailbox.desk.messages.items ≡ t.mailbox.desk.messages.items ++ message.Acceptable key source (length log) ∷ []
   pub closed : u.mailbox.desk.messages.closed ≡ t.mailbox.desk.messages.closed
   pub capacity : u.mailbox.desk.messages.capacity ≡ t.mailbox.desk.messages.capacity
-  pub questions : length u.mailbox.desk.questions ≡ length t.mailbox.desk.questions
-  pub updates : length u.mailbox.desk.updates ≡ length t.mailbox.desk.updates
-  pub sets : length u.mailbox.desk.sets ≡ length t.mailbox.desk.sets
+  pub questions : u.mailbox.desk.questions ≡ t.mailbox.desk.questions
+  pub updates : u.mailbox.desk.updates ≡ t.mailbox.desk.updates
+  pub sets : u.mailbox.desk.sets ≡ t.mailbox.desk.sets
   pub waits : line (log ++ e ∷ []) (queue.Tracker n) ≡ line log (queue.Tracker n) ++ record { entry = length log; place = 0; queue = queue.Tracker n; item = item.AskAcceptable (length log) key } ∷ []
   pub lines : (p : Queue) → is_told n p ≡ true → line (log ++ e ∷ []) p ≡ line log p
 
@@ -132,6 +139,7 @@ tracker_asked configs log e n t u key source s q =
       no_step = q.no_step;
       no_question = q.no_question;
       no_answer = q.no_answer;
+      goes_on = q.goes_on;
       ended = noted_stay log e n t.ended s.ended q.no_end;
       rest = refl;
       items = q.items;
@@ -140,9 +148,11 @@ tracker_asked configs log e n t u key source s q =
       questions = q.questions;
       updates = q.updates;
       sets = q.sets;
+      none_asked = refl;
       each = ((source, q.source_is, refl), tt);
       given = (tt, tt);
       waits = q.waits;
+      asked_told = λ p asked. refl;
       dialer = subst (λ l. Match (λ y a. IsAnswer y.item a) l t.mailbox.dialer) (sym (q.lines (queue.Dialer n) (eq-eqb n n refl))) s.dialer;
       heard = subst (HeardStands t.mailbox.heard) (sym (q.lines (queue.Addresses n) (eq-eqb n n refl))) s.heard;
       handshakes = told_now;

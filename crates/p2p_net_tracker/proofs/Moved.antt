@@ -1,11 +1,13 @@
 -- A node's tracker after an entry that is neither a step of it nor a question of an oracle: what the entry makes of it, and that it stands for the log then.
 use Rattle.std.proofs.Common.{◌≡◌, ℕ, Bool, true, false, cond, List, [], ◌∷◌, ◌++◌, map, length, refl, ap, sym, subst, ◌∙◌, append-nil, Option, Some, None}
-use Rattle.std.specs.Prelude.{filter, if◌then◌else◌}
+use Rattle.std.specs.Prelude.{filter, flat_map, is_some, slice_index_or, if◌then◌else◌}
+use Rattle.std.proofs.lemmas.Grind.{flat_map-append}
 use Rattle.std.proofs.lemmas.List.{map-append}
 use Rattle.p2p_base.specs.declared.key.Key.{Key}
 use Rattle.p2p_base.specs.Queue.{has_room}
 use Rattle.p2p_tracker.specs.Following.{Follows}
-use Rattle.p2p_tracker_mailbox.specs.Desk.{Desk, with_message}
+use Rattle.p2p_flow.specs.Provided as posed
+use Rattle.p2p_tracker_mailbox.specs.Desk.{Desk, with_message, question_at, updates_at, set_of}
 use Rattle.p2p_tracker_mailbox.specs.Lines.{line_of}
 use Rattle.p2p_tracker_mailbox.specs.declared.message.Message.{Message}
 use Rattle.p2p_log.specs.declared.config.Config.{Config}
@@ -17,10 +19,15 @@ use Rattle.p2p_log.specs.declared.entry.Entry.{Entry}
 use Rattle.p2p_log.specs.Lines.{name_of, placed, stands_in, line}
 use Rattle.p2p_log.proofs.Queues.{same_queue-refl}
 use Rattle.p2p_log_rules.specs.Connections.{is_ended}
+use Rattle.p2p_log_rules.specs.Facts.{stops}
+use Rattle.p2p_log_rules.proofs.Channels.{is_stopped-kept}
 use Rattle.p2p_log_rules.specs.Handshakes.{is_handshaking}
 use Rattle.p2p_log_rules.specs.Tracking.{key_cmp}
 use Rattle.p2p_net_queues.specs.Board.{held}
+use Rattle.p2p_net_queues.specs.Tables as table
 use Rattle.p2p_net_queues.proofs.Going.{put_in}
+use Rattle.p2p_net_tracker.specs.AtDesk.{AnswerStands, IsUpdate, SetStands, queue_for, Rises, blocked_asked}
+use Rattle.p2p_net_tracker.proofs.AtDesk.{is_polled, polled_for}
 use Rattle.p2p_net_tracker.specs.Dialed.{asked_puts, names_asked}
 use Rattle.p2p_net_tracker.specs.GivenBack.{IsGivenBack}
 use Rattle.p2p_net_tracker.specs.Heeding.{is_noted}
@@ -40,19 +47,22 @@ pub record TrackerMoves (log : List Entry) (e : Entry) (n : ℕ) (t u : Tracker)
   pub no_step : steps_tracker n e.event.act ≡ false
   pub no_question : asks_of n e.event.act ≡ None
   pub no_answer : (d : ℕ) → takes_answer d e.event.act e.reply ≡ false
+  pub goes_on : stops n e.event.act ≡ false
   pub rest : u ≡ record t { mailbox = u.mailbox; names = t.names ++ map name_of xs; ended = u.ended; told = u.told }
   pub ended : (conn : ℕ) → is_noted u.ended conn ≡ is_ended (log ++ e ∷ []) n conn
   -- what waits for it
   pub items : u.mailbox.desk.messages.items ≡ t.mailbox.desk.messages.items ++ ms
   pub closed : u.mailbox.desk.messages.closed ≡ t.mailbox.desk.messages.closed
   pub capacity : u.mailbox.desk.messages.capacity ≡ t.mailbox.desk.messages.capacity
-  pub questions : length u.mailbox.desk.questions ≡ length t.mailbox.desk.questions
-  pub updates : length u.mailbox.desk.updates ≡ length t.mailbox.desk.updates
-  pub sets : length u.mailbox.desk.sets ≡ length t.mailbox.desk.sets
+  pub questions : u.mailbox.desk.questions ≡ t.mailbox.desk.questions
+  pub updates : u.mailbox.desk.updates ≡ t.mailbox.desk.updates
+  pub sets : u.mailbox.desk.sets ≡ t.mailbox.desk.sets
+  pub none_asked : flat_map blocked_asked ms ≡ []
   pub each : Match (λ x m. IsMessage t.tickets (log ++ e ∷ []) x.item m) xs ms
   pub given : Match (λ x m. IsGivenBack (log ++ e ∷ []) x.entry m) xs ms
   pub waits : line (log ++ e ∷ []) (queue.Tracker n) ≡ line log (queue.Tracker n) ++ xs
-  -- what it told
+  -- what it told: nothing to those who asked by the oracle
+  pub asked_told : (p : Queue) → is_polled p ≡ true → held u.told p ≡ held t.told p
   pub dialer : Match (λ x a. IsAnswer x.item a) (line (log ++ e ∷ []) (queue.Dialer n)) u.mailbox.dialer
   pub heard : HeardStands u.mailbox.heard (line (log ++ e ∷ []) (queue.Addresses n))
   pub handshakes : (k : ℕ) → HandshakeStands (line_of u.mailbox.handshakes k) (is_handshaking (log ++ e ∷ []) n k) (line (log ++ e ∷ []) (queue.Handshake n k))
@@ -69,7 +79,7 @@ tracker_moved configs log e n t u xs ms s q =
       works = s.works;
       local = s.local;
       most = s.most;
-      is_open = q.closed ∙ s.is_open;
+      closed = q.closed ∙ (s.closed ∙ sym (is_stopped-kept log e n q.goes_on));
       size = q.capacity ∙ s.size;
       names = ap (λ l. l ++ map name_of xs) s.names ∙ (sym (map-append name_of (line log (queue.Tracker n)) xs) ∙ ap (map name_of) (sym q.waits));
       messages = subst (λ l. Match (λ x m. IsMessage t.tickets (log ++ e ∷ []) x.item m) l u.mailbox.desk.messages.items) (sym q.waits)
@@ -80,11 +90,15 @@ tracker_moved configs log e n t u xs ms s q =
           (subst (Match (λ (x : Envelope) m. IsGivenBack (log ++ e ∷ []) x.entry m) (line log (queue.Tracker n) ++ xs)) (sym q.items)
           (Match-append (λ (x : Envelope) m. IsGivenBack (log ++ e ∷ []) x.entry m) (line log (queue.Tracker n)) xs t.mailbox.desk.messages.items ms
           (all_given-longer log (e ∷ []) (line log (queue.Tracker n)) t.mailbox.desk.messages.items s.given_back) q.given));
-      questions = q.questions ∙ s.questions;
-      updates = q.updates ∙ s.updates;
-      sets = q.sets ∙ s.sets;
+      questions = ap length q.questions ∙ s.questions;
+      updates = ap length q.updates ∙ s.updates;
+      sets = ap length q.sets ∙ s.sets;
       subscribed = subst (Match (IsTicket t.tickets.updates) t.actor.updates) (sym (update_subscriptions-kept log e n q.no_step)) s.subscribed;
       subscribed_blocked = subst (Match (IsTicket t.tickets.blocked) t.actor.sets) (sym (blocked_subscriptions-kept log e n q.no_step)) s.subscribed_blocked;
+      rises = subst (λ l. Rises 0 (length u.mailbox.desk.sets) (t.actor.sets ++ l))
+          (sym (ap (flat_map blocked_asked) q.items ∙ (flat_map-append blocked_asked t.mailbox.desk.messages.items ms ∙ (ap (λ l. flat_map blocked_asked t.mailbox.desk.messages.items ++ l) q.none_asked ∙ append-nil (flat_map blocked_asked t.mailbox.desk.messages.items)))))
+          (subst (λ l. Rises 0 (length l) (t.actor.sets ++ flat_map blocked_asked t.mailbox.desk.messages.items)) (sym q.sets) s.rises);
+      tickets = s.tickets;
       asked = λ d. s.asked d ∙ sym (asks_at-kept log e n d q.no_question);
       answered = λ d is. s.answered d (sym (asks_at-kept log e n d q.no_question) ∙ is) ∙ sym (was_answered-kept log e d (q.no_answer d));
       fresh = fresh-longer log e t.answered s.fresh (λ d past. q.no_answer d);
@@ -93,6 +107,18 @@ tracker_moved configs log e n t u xs ms s q =
       heard = q.heard;
       handshakes = q.handshakes;
       distinct = q.distinct;
+      polled = record {
+        answers = λ k d is.
+            subst (λ l. AnswerStands (slice_index_or l k posed.given) (is_some (table.at t.answered d)) (held u.told (queue.PeerSet n d))) (sym q.questions)
+            (subst (AnswerStands (question_at t.mailbox.desk k) (is_some (table.at t.answered d))) (sym (q.asked_told (queue.PeerSet n d) refl)) (s.polled.answers k d is));
+        updates = λ k d is.
+            subst (λ l. Match IsUpdate (held u.told (queue.PeerSetUpdates n d)) (slice_index_or l k [])) (sym q.updates)
+            (subst (λ l. Match IsUpdate l (updates_at t.mailbox.desk k)) (sym (q.asked_told (queue.PeerSetUpdates n d) refl)) (s.polled.updates k d is));
+        sets = λ k d is.
+            subst (λ l. SetStands (slice_index_or l k None) (held u.told (queue.Blocked n d))) (sym q.sets)
+            (subst (SetStands (set_of t.mailbox.desk k)) (sym (q.asked_told (queue.Blocked n d) refl)) (s.polled.sets k d is));
+        none = λ kind d no. q.asked_told (queue_for n kind d) (polled_for n kind d) ∙ s.polled.none kind d no;
+      };
       told = q.told;
     })
 
@@ -161,16 +187,16 @@ asked_back t log later n k (Some i) (Some m) h given = (given, tt)
 asked_back t log later n k None (Some m) h given = absurd h
 asked_back t log later n k (Some i) None h given = absurd h
 
--- a desk with these messages more, and as many tickets
+-- a desk with these messages more
 pub record GrowsDesk (old new : Desk Key) (ms : List (Message Key)) : Type 0 where
   pub items : new.messages.items ≡ old.messages.items ++ ms
   pub closed : new.messages.closed ≡ old.messages.closed
   pub capacity : new.messages.capacity ≡ old.messages.capacity
-  pub questions : length new.questions ≡ length old.questions
-  pub updates : length new.updates ≡ length old.updates
-  pub sets : length new.sets ≡ length old.sets
+  pub questions : new.questions ≡ old.questions
+  pub updates : new.updates ≡ old.updates
+  pub sets : new.sets ≡ old.sets
 
-pub desk_grows : (d : Desk Key) (put : Option (Message Key)) → d.messages.closed ≡ false → GrowsDesk d (asked_desk d put) (asked_messages put)
+pub desk_grows : (d : Desk Key) (put : Option (Message Key)) → (is_some put ≡ true → d.messages.closed ≡ false) → GrowsDesk d (asked_desk d put) (asked_messages put)
 desk_grows d None is_open = record { items = sym (append-nil d.messages.items); closed = refl; capacity = refl; questions = refl; updates = refl; sets = refl }
 desk_grows d (Some m) is_open =
-    record { items = kept_open d.messages.closed (has_room d.messages) d.messages.items m is_open; closed = refl; capacity = refl; questions = refl; updates = refl; sets = refl }
+    record { items = kept_open d.messages.closed (has_room d.messages) d.messages.items m (is_open refl); closed = refl; capacity = refl; questions = refl; updates = refl; sets = refl }

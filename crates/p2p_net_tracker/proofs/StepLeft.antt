@@ -1,6 +1,6 @@
 -- What a step of a node's tracker leaves as it was, and what it makes of the rest.
-use Rattle.std.proofs.Common.{◌≡◌, ℕ, true, false, List, [], ◌∷◌, ◌++◌, map, refl, ap, sym, subst, ◌∙◌}
-use Rattle.std.specs.Prelude.{◌==◌}
+use Rattle.std.proofs.Common.{◌≡◌, ℕ, true, false, List, [], ◌∷◌, ◌++◌, map, length, refl, ap, sym, subst, ◌∙◌}
+use Rattle.std.specs.Prelude.{◌==◌, flat_map}
 use Rattle.std.specs.List.{list_any}
 use Rattle.p2p_base.specs.declared.key.Key.{Key}
 use Rattle.p2p_tracker_mailbox.specs.Lines.{line_of}
@@ -17,9 +17,11 @@ use Rattle.p2p_log_rules.specs.declared.row.Row.{Row}
 use Rattle.p2p_log_rules.specs.Effect.{entry_of}
 use Rattle.p2p_log_rules.specs.Handshakes.{is_handshaking}
 use Rattle.p2p_log_rules.specs.Tracking.{key_cmp, calls_of, update_subscriptions, blocked_subscriptions}
+use Rattle.p2p_log_rules.proofs.Channels.{is_stopped-kept}
 use Rattle.p2p_log_rules.proofs.Connections.{ends_untold}
 use Rattle.p2p_log_rules.proofs.Handshakes.{handshakes_of-apart}
 use Rattle.p2p_net_queues.specs.Board.{held}
+use Rattle.p2p_net_tracker.specs.AtDesk.{Rises, blocked_asked, DeskStands}
 use Rattle.p2p_net_tracker.specs.GivenBack.{IsGivenBack}
 use Rattle.p2p_net_tracker.specs.declared.tracker.Tracker.{Tracker}
 use Rattle.p2p_net_queues.specs.Matching.{Match}
@@ -53,6 +55,8 @@ pub record Left (configs : List Config) (log : List Entry) (at seed n : ℕ) (t 
   pub heard_left : HeardStands u.mailbox.heard (line (log ++ step_entry at seed n r ∷ []) (queue.Addresses n))
   pub told_handshakes : (k : ℕ) → HandshakeStands (line_of u.mailbox.handshakes k) (is_handshaking log n k) (line (log ++ step_entry at seed n r ∷ []) (queue.Handshake n k))
   pub distinct : AreDistinct u.mailbox.handshakes
+  pub rises : Rises 0 (length u.mailbox.desk.sets) (u.actor.sets ++ flat_map blocked_asked u.mailbox.desk.messages.items)
+  pub polled : DeskStands n t.tickets t.answered (held u.told) u.mailbox.desk
   pub told_left : (q : Queue) → is_told n q ≡ true → held u.told q ≡ line (log ++ step_entry at seed n r ∷ []) q
 
 pub stands_after : (configs : List Config) (log : List Entry) (at seed n : ℕ) (t u : Tracker) (r : Row) (waits : List Envelope) (messages : List (Message Key)) → TrackerStands configs log n t
@@ -66,7 +70,7 @@ stands_after configs log at seed n t u r waits messages s h =
       works = h.works;
       local = s.local;
       most = s.most;
-      is_open = ap (λ m. m.closed) h.desk.messages ∙ s.is_open;
+      closed = ap (λ m. m.closed) h.desk.messages ∙ (s.closed ∙ sym (is_stopped-kept log e n refl));
       size = ap (λ m. m.capacity) h.desk.messages ∙ s.size;
       names = h.names_left ∙ ap (map name_of) (sym h.mailbox);
       messages = subst (λ l. Match (λ x m. IsMessage t.tickets (log ++ e ∷ []) x.item m) l u.mailbox.desk.messages.items) (sym h.mailbox)
@@ -79,6 +83,8 @@ stands_after configs log at seed n t u r waits messages s h =
       sets = h.desk.sets ∙ s.sets;
       subscribed = h.subscribed;
       subscribed_blocked = h.subscribed_blocked;
+      rises = h.rises;
+      tickets = s.tickets;
       asked = λ d. s.asked d ∙ sym (asks_at-kept log e n d refl);
       answered = λ d is. s.answered d (sym (asks_at-kept log e n d refl) ∙ is) ∙ sym (was_answered-kept log e d refl);
       fresh = fresh-longer log e t.answered s.fresh (λ d past. refl);
@@ -87,5 +93,6 @@ stands_after configs log at seed n t u r waits messages s h =
       heard = h.heard_left;
       handshakes = λ k. subst (λ l. HandshakeStands (line_of u.mailbox.handshakes k) (list_any (λ j. k == j) l) (line (log ++ e ∷ []) (queue.Handshake n k))) (sym (handshakes_of-apart log e n refl)) (h.told_handshakes k);
       distinct = h.distinct;
+      polled = h.polled;
       told = h.told_left;
     })

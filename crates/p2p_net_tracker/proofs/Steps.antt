@@ -1,7 +1,7 @@
 -- A step of a node's tracker: its row is the log's, and it stands for the log with that entry.
-use Rattle.std.proofs.Common.{◌≡◌, ℕ, Bool, true, false, cond, List, [], ◌∷◌, ◌++◌, map, drop, length, refl, ap, sym, subst, ◌∙◌, arith, eq-eqb, append-nil, Option, Some, inl}
+use Rattle.std.proofs.Common.{◌≡◌, ℕ, Bool, true, false, cond, List, [], ◌∷◌, ◌++◌, map, drop, length, refl, ap, sym, subst, ◌∙◌, arith, eq-eqb, append-nil, append_assoc, Option, Some, inl}
 use Rattle.std.specs.Prelude.{filter, flat_map, slice_get, count_by}
-use Rattle.std.specs.List.{list_any, IsDistinct}
+use Rattle.std.specs.List.{list_any, IsDistinct, AllByRecursion as Each}
 use Rattle.std.specs.Map.{keys_of}
 use Rattle.std.specs.BTreeMap.{is_at}
 use Rattle.std.specs.Ordering.{nat_cmp, eq_by_cmp}
@@ -19,6 +19,7 @@ use Rattle.p2p_tracker_mailbox.specs.Lines.{line_of}
 use Rattle.p2p_tracker_mailbox.specs.Mailboxes.{runs_in}
 use Rattle.p2p_tracker_mailbox.specs.declared.mailbox.Mailbox.{Mailbox}
 use Rattle.p2p_tracker_mailbox.specs.declared.message.Message.{Message}
+use Rattle.p2p_tracker_mailbox.specs.declared.message.Message.TheVariants as message
 use Rattle.p2p_tracker.specs.Following.{Follows}
 use Rattle.p2p_tracker.specs.Serving.{calls_by, left_in}
 use Rattle.p2p_tracker.specs.Steps.{unblocked, puts_for, stepped_of, taken_or_idle, by_step, updates_for, sets_for}
@@ -48,6 +49,7 @@ use Rattle.p2p_log_rules.proofs.Recorded.{item_named-first}
 use Rattle.p2p_net_queues.specs.Board.{held}
 use Rattle.p2p_net_queues.proofs.Going.{line-kept}
 use Rattle.p2p_net_tracker.specs.declared.tracker.Tracker.{Tracker}
+use Rattle.p2p_net_tracker.specs.AtDesk.{Rises, blocked_asked, DeskStands}
 use Rattle.p2p_net_tracker.specs.GivenBack.{IsGivenBack}
 use Rattle.p2p_net_tracker.specs.Heeding.{is_noted, heeded_by}
 use Rattle.p2p_net_tracker.specs.Naming.{named_puts}
@@ -55,15 +57,18 @@ use Rattle.p2p_net_tracker.specs.Telling.{lost, told_in, told_to}
 use Rattle.p2p_net_tracker.specs.Stepping.{ActorSteps, Tells, TellsFor, TellsBy, Steps}
 use Rattle.p2p_net_queues.specs.Matching.{Match}
 use Rattle.p2p_net_tracker.specs.Stands.{is_told, IsTicket, IsMessage, IsAnswer, HeardStands, HandshakeStands, AreDistinct, AsksRun, TrackerStands}
+use Rattle.p2p_net_tracker.proofs.AtDesk.{IsTicketed, desk-held, desk-after}
 use Rattle.p2p_net_tracker.proofs.Desk.{all_left}
 use Rattle.p2p_net_tracker.proofs.Dialing.{answers_in, answers-after, answers-named}
 use Rattle.p2p_log_rules.proofs.Calls.{item_calls, step_calls, call_where, subscribes, subscribes_blocked, calls_of-append, update_subscriptions-append, blocked_subscriptions-append}
-use Rattle.p2p_net_tracker.proofs.LateKills.{without_late, heeded-same, named-late, mailbox-late, few-late, grants-late, unblocked-late}
+use Rattle.p2p_net_tracker.proofs.LateKills.{without_late, each-late, heeded-same, named-late, mailbox-late, few-late, grants-late, unblocked-late}
 use Rattle.p2p_net_tracker.proofs.Hearing.{TellsFew, few_dialed, runs_is, unblocked_once, item_few, heard-after, handshakes-after, keys-after}
 use Rattle.p2p_net_queues.proofs.Matching.{Match-append}
 use Rattle.p2p_net_tracker.proofs.Named.{has_any-is, named-unblocked, named-item}
 use Rattle.p2p_net_tracker.proofs.Rings.{is_same}
+use Rattle.p2p_net_tracker.proofs.SetsOnce.{SetsOnce, unblocked_sets, message_sets, sets-late, rises_first}
 use Rattle.p2p_net_tracker.proofs.StepLeft.{step_entry, stands_after}
+use Rattle.p2p_net_tracker.proofs.Ticketed.{unblocked_ticketed, item_ticketed}
 use Rattle.p2p_net_tracker.proofs.Serving.{AskerRuns, item-calls, item-updates, item-sets}
 use Rattle.p2p_net_tracker.proofs.ToldLines.{named-each, Told, holds_told, mailbox-told, dialer-told, heard-told, handshake-told, lost_is, away_none, away_first, mailbox_first}
 
@@ -103,6 +108,11 @@ none_taken log e h = ap (flat_map (item_named log)) h
 pub first_taken : (log : List Entry) (e : Entry) (q : Queue) (x : Envelope) (rest : List Envelope) → line log q ≡ x ∷ rest → e.takes ≡ name_of x ∷ [] → taken log e ≡ x.item ∷ []
 unfolding taken
 first_taken log e q x rest first h = ap (flat_map (item_named log)) h ∙ (append-nil (item_named log (name_of x)) ∙ item_named-first log q x rest first)
+
+-- what a message asks for is told from then on
+rises_taken : (last : ℕ) (sets : List ℕ) (m : Message Key) (ms : List (Message Key)) → Rises 0 last (sets ++ flat_map blocked_asked (m ∷ ms)) → Rises 0 last (sets_for m sets ++ flat_map blocked_asked ms)
+rises_taken last sets (message.SubscribeBlocked ticket) ms h = subst (Rises 0 last) (sym (append_assoc sets (ticket ∷ []) (flat_map blocked_asked ms))) h
+rises_taken last sets _ ms h = h
 
 -- ---- by what the actor did
 
@@ -204,6 +214,26 @@ module _ (configs : List Config) (log : List Entry) (at seed n : ℕ) (t u : Tra
   distinct_now : (put : List (Put Key)) (start : Mailbox Key) → u.mailbox ≡ after_puts put start → AreDistinct start.handshakes → AreDistinct u.mailbox.handshakes
   distinct_now put start mailbox = subst (IsDistinct (eq_by_cmp nat_cmp)) (sym (ap (λ (m : Mailbox Key). keys_of m.handshakes) mailbox ∙ keys-after put start))
 
+  -- what waits at the desk for those who asked, beside the names of it
+  polled_now : (before : Row) (put : List (Put Key)) (start : Mailbox Key) → Tells (length log) before (named_puts n t.tickets put) t u r → before.puts ≡ [] → u.mailbox ≡ after_puts put start
+      → length start.desk.updates ≡ length t.tickets.updates → length start.desk.sets ≡ length t.tickets.blocked → Each (IsTicketed t.tickets) put → SetsOnce put → DeskStands n t.tickets t.answered (held t.told) start.desk
+      → DeskStands n t.tickets t.answered (held u.told) u.mailbox.desk
+  polled_now before put start tells none_put mailbox updates sets each once d =
+      subst (λ (m : Mailbox Key). DeskStands n t.tickets t.answered (held u.told) m.desk) (sym mailbox)
+      (desk-after n t.tickets t.questions s.tickets (length log) t.answered (held t.told) (held u.told) start put updates sets each once
+      (λ q. tells.told q ∙ ap (λ l. told_to (held t.told) (named_puts n t.tickets put) (length log) (length l) q) none_put) d)
+
+  -- the subscriptions to the blocked keys that are told rise
+  told_rise : Rises 0 (length t.mailbox.desk.sets) t.actor.sets
+  told_rise = rises_first 0 (length t.mailbox.desk.sets) t.actor.sets (flat_map blocked_asked t.mailbox.desk.messages.items) s.rises
+
+  -- and those that wait, after them
+  rises_now : (sets : List ℕ) (ms : List (Message Key)) → u.actor.sets ≡ sets → u.mailbox.desk.messages.items ≡ ms → length u.mailbox.desk.sets ≡ length t.mailbox.desk.sets
+      → Rises 0 (length t.mailbox.desk.sets) (sets ++ flat_map blocked_asked ms) → Rises 0 (length u.mailbox.desk.sets) (u.actor.sets ++ flat_map blocked_asked u.mailbox.desk.messages.items)
+  rises_now sets ms told waits long h =
+      subst (λ l. Rises 0 l (u.actor.sets ++ flat_map blocked_asked u.mailbox.desk.messages.items)) (sym long)
+      (subst (λ xs. Rises 0 (length t.mailbox.desk.sets) (u.actor.sets ++ flat_map blocked_asked xs)) (sym waits) (subst (λ xs. Rises 0 (length t.mailbox.desk.sets) (xs ++ flat_map blocked_asked ms)) (sym told) h))
+
   -- blocks had ended
   after_unblocked : (put : List (Put Key)) → ActorSteps t.actor u.actor t.mailbox u.mailbox at seed (stepped.EndedBlocks put) → TellsBy (stepped.EndedBlocks put) (length log) n t u r
       → u ≡ record t { actor = u.actor; mailbox = u.mailbox; names = u.names; told = u.told }
@@ -228,7 +258,21 @@ module _ (configs : List Config) (log : List Entry) (at seed n : ℕ) (t u : Tra
       heeded_is put due
       (ap (named_puts n t.tickets) is ∙ named-unblocked n t.tickets rules t.mailbox.heard at t.actor.updates t.actor.sets us bs t.mailbox.desk.sets s.subscribed s.subscribed_blocked (runs_in t.mailbox) calls (call.UnblockExpired at))
       ∙ unblocked-late (is_ended log n) rules n at us bs calls (call.UnblockExpired at)
-      in (
+      in
+      let once : SetsOnce kept =
+      sets-late (is_noted t.ended) put
+      (subst SetsOnce (sym is)
+      (unblocked_sets rules t.actor.updates t.actor.sets t.mailbox.desk.sets t.mailbox.heard (runs_in t.mailbox) calls at 0 (length t.mailbox.desk.sets) told_rise (call.UnblockExpired at)))
+      in
+      let ticketed : Each (IsTicketed t.tickets) kept =
+      each-late (is_noted t.ended) (IsTicketed t.tickets) put
+      (subst (Each (IsTicketed t.tickets)) (sym is)
+      (unblocked_ticketed t.tickets rules t.actor.updates t.actor.sets us bs t.mailbox.desk.sets s.subscribed s.subscribed_blocked t.mailbox.heard (runs_in t.mailbox) calls at (call.UnblockExpired at)))
+      in
+      let left_items : u.mailbox.desk.messages.items ≡ t.mailbox.desk.messages.items =
+      ap (λ (m : Mailbox Key). m.desk.messages.items) mailbox ∙ ap (λ (q : base.Queue (Message Key)). q.items) desk.messages
+      in
+      let left_sets : length u.mailbox.desk.sets ≡ length t.mailbox.desk.sets = ap (λ (m : Mailbox Key). length m.desk.sets) mailbox ∙ desk.sets in (
         row_now [] (only reply.Ok) kept due telling refl (λ p own. away_none log p) named,
         stands_after configs log at seed n t u r (line log (queue.Tracker n)) t.mailbox.desk.messages.items s (record {
           rest = rest;
@@ -249,13 +293,15 @@ module _ (configs : List Config) (log : List Entry) (at seed n : ℕ) (t u : Tra
             messages = ap (λ (m : Mailbox Key). record m.desk.messages { items = t.mailbox.desk.messages.items }) mailbox ∙ ap (λ (q : base.Queue (Message Key)). record q { items = t.mailbox.desk.messages.items }) desk.messages;
             questions = ap (λ (m : Mailbox Key). length m.desk.questions) mailbox ∙ desk.questions;
             updates = ap (λ (m : Mailbox Key). length m.desk.updates) mailbox ∙ desk.updates;
-            sets = ap (λ (m : Mailbox Key). length m.desk.sets) mailbox ∙ desk.sets;
+            sets = left_sets;
           };
-          items = ap (λ (m : Mailbox Key). m.desk.messages.items) mailbox ∙ ap (λ (q : base.Queue (Message Key)). q.items) desk.messages;
+          items = left_items;
           answered = answers_now [] kept t.mailbox told mailbox few s.dialer;
           heard_left = heard_now [] kept t.mailbox told mailbox few s.heard;
           told_handshakes = handshakes_now [] kept t.mailbox told mailbox few s.handshakes;
           distinct = distinct_now kept t.mailbox mailbox s.distinct;
+          rises = rises_now t.actor.sets t.mailbox.desk.messages.items steps.step.sets left_items left_sets s.rises;
+          polled = polled_now (only reply.Ok) kept t.mailbox telling refl mailbox s.updates s.sets ticketed once s.polled;
           told_left = told_after [] (only reply.Ok) kept telling refl told;
         }),
       )
@@ -294,6 +340,20 @@ module _ (configs : List Config) (log : List Entry) (at seed n : ℕ) (t u : Tra
       few-late (is_noted t.ended) (runs_in start) put
       (subst (TellsFew (runs_in t.mailbox)) (sym puts_is) (item_few rules t.actor.updates t.actor.sets t.mailbox.desk.sets t.mailbox.heard (runs_in t.mailbox) calls at t.tickets log i m says))
       in
+      let once : SetsOnce kept =
+      sets-late (is_noted t.ended) put
+      (subst SetsOnce (sym puts_is)
+      (message_sets rules t.actor.updates t.actor.sets t.mailbox.desk.sets t.mailbox.heard (runs_in t.mailbox) calls at 0 (length t.mailbox.desk.sets) told_rise m))
+      in
+      let ticketed : Each (IsTicketed t.tickets) kept =
+      each-late (is_noted t.ended) (IsTicketed t.tickets) put
+      (subst (Each (IsTicketed t.tickets)) (sym puts_is)
+      (item_ticketed t.tickets rules t.actor.updates t.actor.sets us bs t.mailbox.desk.sets s.subscribed s.subscribed_blocked t.mailbox.heard (runs_in t.mailbox) calls at log i m says))
+      in
+      let left_items : u.mailbox.desk.messages.items ≡ ms =
+      ap (λ (k : Mailbox Key). k.desk.messages.items) mailbox ∙ (ap (λ (q : base.Queue (Message Key)). q.items) desk.messages ∙ ap (drop 1) items)
+      in
+      let left_sets : length u.mailbox.desk.sets ≡ length t.mailbox.desk.sets = ap (λ (k : Mailbox Key). length k.desk.sets) mailbox ∙ desk.sets in
       let grants : list_any grants_peer r.puts ≡ list_any grants_peer xs = ap (λ (k : Row). list_any grants_peer k.puts) row_is ∙ grants-late (is_ended log n) xs
       in (
         row_is ∙ ap (λ k. tracker_told_row log (name_of x ∷ []) (heeded (is_ended log n) (puts.item_puts rules n at us bs calls log k))) (sym is),
@@ -320,13 +380,16 @@ module _ (configs : List Config) (log : List Entry) (at seed n : ℕ) (t u : Tra
             messages = ap (λ (k : Mailbox Key). record k.desk.messages { items = t.mailbox.desk.messages.items }) mailbox ∙ ap (λ (q : base.Queue (Message Key)). record q { items = t.mailbox.desk.messages.items }) desk.messages;
             questions = ap (λ (k : Mailbox Key). length k.desk.questions) mailbox ∙ desk.questions;
             updates = ap (λ (k : Mailbox Key). length k.desk.updates) mailbox ∙ desk.updates;
-            sets = ap (λ (k : Mailbox Key). length k.desk.sets) mailbox ∙ desk.sets;
+            sets = left_sets;
           };
-          items = ap (λ (k : Mailbox Key). k.desk.messages.items) mailbox ∙ (ap (λ (q : base.Queue (Message Key)). q.items) desk.messages ∙ ap (drop 1) items);
+          items = left_items;
           answered = answers_now (name_of x ∷ []) kept start told mailbox few s.dialer;
           heard_left = heard_now (name_of x ∷ []) kept start told mailbox few s.heard;
           told_handshakes = handshakes_now (name_of x ∷ []) kept start told mailbox few s.handshakes;
           distinct = distinct_now kept start mailbox s.distinct;
+          rises = rises_now (sets_for m t.actor.sets) ms (steps.step.sets ∙ ap (λ o. by_step (stepped.Message put) o sets_for t.actor.sets) next) left_items left_sets
+              (rises_taken (length t.mailbox.desk.sets) t.actor.sets m ms (subst (λ l. Rises 0 (length t.mailbox.desk.sets) (t.actor.sets ++ flat_map blocked_asked l)) items s.rises));
+          polled = polled_now (taken_row (name_of x)) kept start telling refl mailbox s.updates s.sets ticketed once (record { answers = s.polled.answers; updates = s.polled.updates; sets = s.polled.sets; none = s.polled.none });
           told_left = told_after (name_of x ∷ []) (taken_row (name_of x)) kept telling refl told;
         }),
       )
@@ -373,6 +436,8 @@ module _ (configs : List Config) (log : List Entry) (at seed n : ℕ) (t u : Tra
               subst (HandshakeStands (line_of u.mailbox.handshakes k) (is_handshaking log n k)) (sym (same (queue.Handshake n k)))
               (subst (λ (m : Mailbox Key). HandshakeStands (line_of m.handshakes k) (is_handshaking log n k) (line log (queue.Handshake n k))) (sym mailbox) (s.handshakes k));
           distinct = subst (λ (m : Mailbox Key). AreDistinct m.handshakes) (sym mailbox) s.distinct;
+          rises = rises_now t.actor.sets t.mailbox.desk.messages.items steps.step.sets (ap (λ (m : Mailbox Key). m.desk.messages.items) mailbox) (ap (λ (m : Mailbox Key). length m.desk.sets) mailbox) s.rises;
+          polled = subst (λ (m : Mailbox Key). DeskStands n t.tickets t.answered (held u.told) m.desk) (sym mailbox) (desk-held n t.tickets t.answered (held t.told) (held u.told) t.mailbox.desk tells.0.told s.polled);
           told_left = λ q own. tells.0.told q ∙ (s.told q own ∙ sym (same q));
         }),
       )
@@ -457,5 +522,7 @@ gone_stands configs log at seed n t s =
       heard_left = subst (HeardStands t.mailbox.heard) (sym (same (queue.Addresses n))) s.heard;
       told_handshakes = λ k. subst (HandshakeStands (line_of t.mailbox.handshakes k) (is_handshaking log n k)) (sym (same (queue.Handshake n k))) (s.handshakes k);
       distinct = s.distinct;
+      rises = s.rises;
+      polled = s.polled;
       told_left = λ q own. s.told q own ∙ sym (same q);
     })

@@ -1,10 +1,12 @@
 -- A node's tracker while its node stops, and once it has stopped.
-use Rattle.std.proofs.Common.{◌≡◌, ℕ, ◌≤◌, Bool, true, false, List, [], ◌∷◌, ◌++◌, map, length, length-append, refl, ap, sym, subst, ◌∙◌, arith, Option, Some, None}
-use Rattle.std.specs.Prelude.{◌==◌, filter, if◌then◌else◌}
+use Rattle.std.proofs.Common.{◌≡◌, ℕ, ◌≤◌, Bool, true, false, List, [], ◌∷◌, ◌++◌, map, length, length-append, append-nil, eq-eqb, refl, ap, sym, subst, ◌∙◌, arith, Option, Some, None}
+use Rattle.std.specs.Prelude.{◌==◌, filter, flat_map, is_some, if◌then◌else◌}
 use Rattle.std.specs.List.{IsDistinct, list_any}
 use Rattle.p2p_base.specs.declared.key.Key.{Key}
 use Rattle.p2p_tracker.specs.Following.{Follows}
+use Rattle.p2p_tracker_mailbox.specs.Desk.{question_at, updates_at, set_of}
 use Rattle.p2p_tracker_mailbox.specs.Lines.{line_of}
+use Rattle.p2p_tracker_mailbox.specs.Mailboxes.{closed_mailbox}
 use Rattle.p2p_tracker_mailbox.specs.declared.answer.HandshakeItem.{HandshakeItem}
 use Rattle.p2p_log.specs.declared.config.Config.{Config}
 use Rattle.p2p_log.specs.declared.queue.Queue.{Queue}
@@ -19,22 +21,29 @@ use Rattle.p2p_log.proofs.Queues.{same_queue-sym}
 use Rattle.p2p_log.proofs.QueueNames.{queue_from_same}
 use Rattle.p2p_log_rules.specs.Attempting.{left_ends}
 use Rattle.p2p_log_rules.specs.Connections.{is_ended}
+use Rattle.p2p_log_rules.specs.Facts.{is_stopped}
 use Rattle.p2p_log_rules.specs.Handshakes.{is_handshaking}
 use Rattle.p2p_log_rules.specs.Tracking.{key_cmp, calls_of, update_subscriptions, blocked_subscriptions}
 use Rattle.p2p_log_rules.specs.TrackerRows.{was_answered}
 use Rattle.p2p_log_rules.proofs.Answers.{takes_answer}
 use Rattle.p2p_log_rules.proofs.Steps.{steps_tracker}
-use Rattle.p2p_log_rules.proofs.Channels.{IsStopOf}
+use Rattle.p2p_log_rules.proofs.Channels.{IsStopOf, is_stopped-stops}
 use Rattle.p2p_log_rules.proofs.Handshakes.{handshakes_of-stopped}
 use Rattle.p2p_log_rules.proofs.Left.{without, line_gone, line_kept}
 use Rattle.p2p_net_queues.specs.Board.{held}
+use Rattle.p2p_net_queues.specs.Tables as table
 use Rattle.p2p_net_queues.specs.Matching.{Match}
 use Rattle.p2p_net_queues.specs.Rows.{item_ends}
 use Rattle.p2p_net_tracker.specs.GivenBack.{IsGivenBack}
 use Rattle.p2p_net_tracker.specs.Heeding.{is_noted}
 use Rattle.p2p_net_tracker.specs.Stands.{asks_of, asks_at, is_told, IsTicket, IsMessage, IsAnswer, HandshakeStands, AreDistinct, TrackerStands}
-use Rattle.p2p_net_tracker.specs.Stopping.{emptied, TrackerLeft}
+use Rattle.p2p_net_tracker.specs.Stopping.{TrackerLeft}
+use Rattle.p2p_net_tracker.specs.AtDesk.{AnswerStands, IsUpdate, SetStands, queue_for, Rises, blocked_asked}
+use Rattle.p2p_net_tracker.specs.declared.question.Question.{Question}
+use Rattle.p2p_net_tracker.specs.declared.question.Question.TheVariants as question
 use Rattle.p2p_net_tracker.specs.declared.tracker.Tracker.{Tracker}
+use Rattle.p2p_net_tracker.proofs.AtDesk.{is_polled, polled_for}
+use Rattle.p2p_net_tracker.proofs.SetsOnce.{rises_first}
 use Rattle.p2p_net_tracker.proofs.Changes.{told_apart}
 use Rattle.p2p_net_tracker.proofs.Facts.{asks_at-kept, was_answered-kept, calls-kept, update_subscriptions-kept, blocked_subscriptions-kept}
 
@@ -106,17 +115,17 @@ tracker_left_kept n old new items names told l = record {
 
 -- ---- once it has stopped
 
--- the new tracker is the old one, of which the mailbox is emptied
+-- the new tracker is the old one, of which the mailbox has closed
 pub record IsEmptied (old new : Tracker) : Type 0 where
   pub actor : new.actor ≡ old.actor
-  pub mailbox : new.mailbox ≡ emptied old.mailbox
+  pub mailbox : new.mailbox ≡ closed_mailbox old.mailbox
   pub oracle : new.oracle ≡ old.oracle
   pub names : new.names ≡ []
   pub tickets : new.tickets ≡ old.tickets
   pub questions : new.questions ≡ old.questions
   pub answered : new.answered ≡ old.answered
 
-pub emptied_by : (old new : Tracker) → new ≡ record old { mailbox = emptied old.mailbox; names = []; ended = new.ended; told = new.told } → IsEmptied old new
+pub emptied_by : (old new : Tracker) → new ≡ record old { mailbox = closed_mailbox old.mailbox; names = []; ended = new.ended; told = new.told } → IsEmptied old new
 emptied_by old new is = record {
   actor = ap (λ (t : Tracker). t.actor) is;
   mailbox = ap (λ (t : Tracker). t.mailbox) is;
@@ -129,6 +138,7 @@ emptied_by old new is = record {
 
 -- what an entry leaves that stops the node, by the log
 pub record StopsTracker (configs : List Config) (log : List Entry) (e : Entry) (n : ℕ) : Type 0 where
+  pub over : is_stopped (log ++ e ∷ []) n ≡ true
   pub calls : calls_of configs (log ++ e ∷ []) n ≡ calls_of configs log n
   pub updates : update_subscriptions (log ++ e ∷ []) n ≡ update_subscriptions log n
   pub sets : blocked_subscriptions (log ++ e ∷ []) n ≡ blocked_subscriptions log n
@@ -138,15 +148,17 @@ pub record StopsTracker (configs : List Config) (log : List Entry) (e : Entry) (
   pub listener : line (log ++ e ∷ []) (queue.Addresses n) ≡ []
   pub dialer : line (log ++ e ∷ []) (queue.Dialer n) ≡ []
   pub handshakes : (k : ℕ) → line (log ++ e ∷ []) (queue.Handshake n k) ≡ []
+  pub polled : (q : Queue) → is_polled q ≡ true → line (log ++ e ∷ []) q ≡ line log q
   pub no_handshake : (k : ℕ) → is_handshaking (log ++ e ∷ []) n k ≡ false
 
 -- its lines are left to show
 pub stop_leaves : (configs : List Config) (log : List Entry) (e : Entry) (n : ℕ) → IsStopOf log e n
     → line (log ++ e ∷ []) (queue.Tracker n) ≡ [] → line (log ++ e ∷ []) (queue.Addresses n) ≡ [] → line (log ++ e ∷ []) (queue.Dialer n) ≡ []
-    → ((k : ℕ) → line (log ++ e ∷ []) (queue.Handshake n k) ≡ []) → StopsTracker configs log e n
-stop_leaves configs log e n stop mailbox listener dialer handshakes =
+    → ((k : ℕ) → line (log ++ e ∷ []) (queue.Handshake n k) ≡ []) → ((q : Queue) → is_polled q ≡ true → line (log ++ e ∷ []) q ≡ line log q) → StopsTracker configs log e n
+stop_leaves configs log e n stop mailbox listener dialer handshakes polled =
     let no_step : steps_tracker n e.event.act ≡ false = ap (steps_tracker n) stop.acts in
     record {
+      over = is_stopped-stops log e n stop.by_start stop.acts;
       calls = calls-kept configs log e n no_step;
       updates = update_subscriptions-kept log e n no_step;
       sets = blocked_subscriptions-kept log e n no_step;
@@ -156,6 +168,7 @@ stop_leaves configs log e n stop mailbox listener dialer handshakes =
       listener = listener;
       dialer = dialer;
       handshakes = handshakes;
+      polled = polled;
       no_handshake = λ k. ap (list_any (λ j. k == j)) (handshakes_of-stopped log e n stop);
     }
 
@@ -172,15 +185,15 @@ unfolding IsDistinct
 none_distinct = tt
 
 -- the tracker as a whole
-whole : (old new : Tracker) → IsEmptied old new → new ≡ record old { mailbox = emptied old.mailbox; names = []; ended = new.ended; told = new.told }
+whole : (old new : Tracker) → IsEmptied old new → new ≡ record old { mailbox = closed_mailbox old.mailbox; names = []; ended = new.ended; told = new.told }
 whole old new i =
     ap (λ x. record new { actor = x }) i.actor
     ∙ (ap (λ x. record new { actor = old.actor; mailbox = x }) i.mailbox
-    ∙ (ap (λ x. record new { actor = old.actor; mailbox = emptied old.mailbox; oracle = x }) i.oracle
-    ∙ (ap (λ x. record new { actor = old.actor; mailbox = emptied old.mailbox; oracle = old.oracle; names = x }) i.names
-    ∙ (ap (λ x. record new { actor = old.actor; mailbox = emptied old.mailbox; oracle = old.oracle; names = []; tickets = x }) i.tickets
-    ∙ (ap (λ x. record old { mailbox = emptied old.mailbox; names = []; questions = x; answered = new.answered; ended = new.ended; told = new.told }) i.questions
-    ∙ ap (λ x. record old { mailbox = emptied old.mailbox; names = []; answered = x; ended = new.ended; told = new.told }) i.answered)))))
+    ∙ (ap (λ x. record new { actor = old.actor; mailbox = closed_mailbox old.mailbox; oracle = x }) i.oracle
+    ∙ (ap (λ x. record new { actor = old.actor; mailbox = closed_mailbox old.mailbox; oracle = old.oracle; names = x }) i.names
+    ∙ (ap (λ x. record new { actor = old.actor; mailbox = closed_mailbox old.mailbox; oracle = old.oracle; names = []; tickets = x }) i.tickets
+    ∙ (ap (λ x. record old { mailbox = closed_mailbox old.mailbox; names = []; questions = x; answered = new.answered; ended = new.ended; told = new.told }) i.questions
+    ∙ ap (λ x. record old { mailbox = closed_mailbox old.mailbox; names = []; answered = x; ended = new.ended; told = new.told }) i.answered)))))
 
 -- it stands as one that runs
 pub tracker_stopped : (configs : List Config) (log : List Entry) (e : Entry) (n : ℕ) (old new : Tracker) → TrackerStands configs log n old → IsEmptied old new → TrackerLeft n new (live (log ++ e ∷ []))
@@ -195,7 +208,7 @@ tracker_stopped configs log e n old new s is left q ended =
       works = s.works;
       local = s.local;
       most = s.most;
-      is_open = s.is_open;
+      closed = sym q.over;
       size = s.size;
       names = sym (ap (map name_of) q.mailbox);
       messages = subst (λ l. Match (λ x m. IsMessage t.tickets (log ++ e ∷ []) x.item m) l []) (sym q.mailbox) tt;
@@ -205,6 +218,8 @@ tracker_stopped configs log e n old new s is left q ended =
       sets = s.sets;
       subscribed = subst (Match (IsTicket t.tickets.updates) t.actor.updates) (sym q.updates) s.subscribed;
       subscribed_blocked = subst (Match (IsTicket t.tickets.blocked) t.actor.sets) (sym q.sets) s.subscribed_blocked;
+      rises = subst (Rises 0 (length t.mailbox.desk.sets)) (sym (append-nil t.actor.sets)) (rises_first 0 (length t.mailbox.desk.sets) t.actor.sets (flat_map blocked_asked t.mailbox.desk.messages.items) s.rises);
+      tickets = s.tickets;
       asked = λ d. s.asked d ∙ sym (q.asked d);
       answered = λ d wants. s.answered d (sym (q.asked d) ∙ wants) ∙ sym (q.answered d);
       fresh = λ d past.
@@ -217,5 +232,20 @@ tracker_stopped configs log e n old new s is left q ended =
       heard = q.listener;
       handshakes = λ k. (q.no_handshake k, q.handshakes k);
       distinct = none_distinct;
+      polled = record {
+        answers = λ k d is. subst (AnswerStands (question_at t.mailbox.desk k) (is_some (table.at t.answered d))) (sym (same (queue.PeerSet n d) refl (eq-eqb n n refl))) (s.polled.answers k d is);
+        updates = λ k d is. subst (λ l. Match IsUpdate l (updates_at t.mailbox.desk k)) (sym (same (queue.PeerSetUpdates n d) refl (eq-eqb n n refl))) (s.polled.updates k d is);
+        sets = λ k d is. subst (SetStands (set_of t.mailbox.desk k)) (sym (same (queue.Blocked n d) refl (eq-eqb n n refl))) (s.polled.sets k d is);
+        none = λ kind d no. same (queue_for n kind d) (polled_for n kind d) (own_for n kind d) ∙ s.polled.none kind d no;
+      };
       told = left.told;
     })
+  where
+    own_for : (n : ℕ) (kind : Question) (d : ℕ) → is_told n (queue_for n kind d) ≡ true
+    own_for n question.PeerSet d = eq-eqb n n refl
+    own_for n question.Updates d = eq-eqb n n refl
+    own_for n question.Blocked d = eq-eqb n n refl
+
+    -- what waits for those who asked stays
+    same : (p : Queue) → is_polled p ≡ true → is_told n p ≡ true → held new.told p ≡ held old.told p
+    same p asked own = left.told p own ∙ (q.polled p asked ∙ sym (s.told p own))

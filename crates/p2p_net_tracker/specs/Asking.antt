@@ -1,10 +1,11 @@
 -- What a tracker is once it was asked, as values.
-use Rattle.std.specs.Prelude.{ℕ, cond, nat_lt, [], ◌∷◌, ◌++◌}
+use Rattle.std.specs.Prelude.{ℕ, cond, nat_lt, List, [], ◌∷◌, ◌++◌, length}
 use Rattle.std.specs.Map.{keys_of}
 use Rattle.std.specs.BTreeMap.{insert_entry}
 use Rattle.std.specs.Ordering.{nat_cmp}
 use Rattle.p2p_base.specs.declared.key.Key.{Key}
 use Rattle.p2p_base.specs.declared.outcome.Feedback.{Feedback}
+use Rattle.p2p_base.specs.declared.outcome.Feedback.TheVariants as feedback
 use Rattle.p2p_flow.specs.SetSize.{set_size}
 use Rattle.p2p_flow.specs.declared.addressable.AddressableTrackedPeers.{AddressableTrackedPeers}
 use Rattle.p2p_tracker_mailbox.specs.Desk.{Desk, told_of, with_message, asked, subscribed, blocked_subscribed}
@@ -31,23 +32,32 @@ message_of (ask.PeerSet index) ticket = message.PeerSet index ticket
 message_of ask.Subscribe ticket = message.Subscribe ticket
 message_of ask.Blocked ticket = message.SubscribeBlocked ticket
 
--- the row of a question of the entry k at the node n, of which its mailbox tells this
+-- the row of a question of the entry k at the node n, of which its mailbox tells this: one that has closed takes none
 abbrev pub asking_row : Feedback → ℕ → ℕ → Row
+asking_row feedback.Closed n k = only (reply.Feedback feedback.Closed)
 asking_row told n k = record { reply = reply.Feedback told; takes = []; puts = (queue.Tracker n, item.Call k) ∷ []; ends = [] }
+
+-- the name of its message, where it was taken
+abbrev pub names_told : Feedback → ℕ → List (ℕ × ℕ)
+names_told feedback.Closed k = []
+names_told told k = (k, 0) ∷ []
 
 -- a tracker that was asked by the entry k, and has this desk then
 abbrev pub asks_for : Tracker → ℕ → Desk Key → Tracker
-asks_for t k desk = record t { mailbox = with_desk t.mailbox desk; names = t.names ++ (k, 0) ∷ [] }
+asks_for t k desk = record t { mailbox = with_desk t.mailbox desk; names = t.names ++ names_told (told_of t.mailbox.desk) k }
 
--- its next tickets are those of the entry k
-abbrev pub with_question : Tracker → ℕ → Tracker
-with_question t k = record t { tickets = record t.tickets { questions = t.tickets.questions ++ k ∷ [] }; questions = insert_entry nat_cmp t.questions k question.PeerSet }
+-- the next ticket of its kind is that of the entry k, under this number
+abbrev pub with_question : Tracker → ℕ → ℕ → Tracker
+with_question t k number =
+    record t { tickets = record t.tickets { questions = t.tickets.questions ++ k ∷ [] }; questions = insert_entry nat_cmp t.questions k (record { question = question.PeerSet; number = number }) }
 
-abbrev pub with_updates : Tracker → ℕ → Tracker
-with_updates t k = record t { tickets = record t.tickets { updates = t.tickets.updates ++ k ∷ [] }; questions = insert_entry nat_cmp t.questions k question.Updates }
+abbrev pub with_updates : Tracker → ℕ → ℕ → Tracker
+with_updates t k number =
+    record t { tickets = record t.tickets { updates = t.tickets.updates ++ k ∷ [] }; questions = insert_entry nat_cmp t.questions k (record { question = question.Updates; number = number }) }
 
-abbrev pub with_blocked : Tracker → ℕ → Tracker
-with_blocked t k = record t { tickets = record t.tickets { blocked = t.tickets.blocked ++ k ∷ [] }; questions = insert_entry nat_cmp t.questions k question.Blocked }
+abbrev pub with_blocked : Tracker → ℕ → ℕ → Tracker
+with_blocked t k number =
+    record t { tickets = record t.tickets { blocked = t.tickets.blocked ++ k ∷ [] }; questions = insert_entry nat_cmp t.questions k (record { question = question.Blocked; number = number }) }
 
 abbrev pub size_by : Tracker → AddressableTrackedPeers Key → ℕ
 size_by t peers = set_size key_cmp t.oracle.local (keys_of peers.primary) (keys_of peers.secondary)
@@ -69,7 +79,7 @@ ask_answer t n k _ = asking_row (told_of t.mailbox.desk) n k
 -- and the tracker then
 abbrev pub after_asking : Tracker → ℕ → Asked → Tracker
 after_asking t k (ask.Track index peers) = tracked_by t k index peers
-after_asking t k (ask.PeerSet index) = with_question (asks_for t k (asked t.mailbox.desk index)) k
-after_asking t k ask.Subscribe = with_updates (asks_for t k (subscribed t.mailbox.desk)) k
-after_asking t k ask.Blocked = with_blocked (asks_for t k (blocked_subscribed t.mailbox.desk)) k
+after_asking t k (ask.PeerSet index) = with_question (asks_for t k (asked t.mailbox.desk index)) k (length t.mailbox.desk.questions)
+after_asking t k ask.Subscribe = with_updates (asks_for t k (subscribed t.mailbox.desk)) k (length t.mailbox.desk.updates)
+after_asking t k ask.Blocked = with_blocked (asks_for t k (blocked_subscribed t.mailbox.desk)) k (length t.mailbox.desk.sets)
 after_asking t k what = asks_for t k (with_message t.mailbox.desk (message_of what 0))

@@ -1,4 +1,5 @@
 pub mod Asking
+pub mod AtDesk
 pub mod Begins
 pub mod Connecting
 pub mod Dialed

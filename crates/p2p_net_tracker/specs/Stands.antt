@@ -1,5 +1,5 @@
 -- When a node's tracker stands for a log.
-use Rattle.std.specs.Prelude.{◌≡◌, ℕ, ◌≤◌, Bool, true, false, ◌==◌, cond, is_some, Option, None, List, [], ◌∷◌, ◌++◌, map, length, Some, slice_get}
+use Rattle.std.specs.Prelude.{◌≡◌, ℕ, ◌≤◌, Bool, true, false, ◌==◌, cond, is_some, Option, None, List, [], ◌∷◌, ◌++◌, map, flat_map, length, Some, slice_get}
 use Rattle.std.specs.List.{IsDistinct}
 use Rattle.std.specs.Map.{keys_of}
 use Rattle.std.specs.Ordering.{nat_cmp, eq_by_cmp}
@@ -31,7 +31,7 @@ use Rattle.p2p_log.specs.declared.event.Act.{Act}
 use Rattle.p2p_log.specs.declared.event.Act.TheVariants as act
 use Rattle.p2p_log.specs.Lines.{name_of, line}
 use Rattle.p2p_log_rules.specs.Connections.{is_ended}
-use Rattle.p2p_log_rules.specs.Facts.{key_at}
+use Rattle.p2p_log_rules.specs.Facts.{key_at, is_stopped}
 use Rattle.p2p_log_rules.specs.Handshakes.{is_handshaking, source_at}
 use Rattle.p2p_log_rules.specs.Rows.{mailbox_size_at}
 use Rattle.p2p_log_rules.specs.Tracking.{key_cmp, rules_at, asked_by, calls_of, update_subscriptions, blocked_subscriptions}
@@ -40,6 +40,8 @@ use Rattle.p2p_net_queues.specs.Matching.{Match}
 use Rattle.p2p_net_queues.specs.Board.{held}
 use Rattle.p2p_net_queues.specs.Tables as table
 use Rattle.p2p_net_tracker.specs.Asking.{message_of}
+pub use Rattle.p2p_net_tracker.specs.AtDesk.{IsTicket, tickets_of}
+use Rattle.p2p_net_tracker.specs.AtDesk.{asked_for, TicketsStand, DeskStands, Rises, blocked_asked}
 use Rattle.p2p_net_tracker.specs.GivenBack.{IsGivenBack}
 use Rattle.p2p_net_tracker.specs.Heeding.{is_noted}
 use Rattle.p2p_net_tracker.specs.Naming.{dialed_grant, listened_grant}
@@ -59,22 +61,12 @@ is_told n (queue.Blocked m e) = m == n
 is_told n (queue.Handshake m e) = m == n
 is_told n _ = false
 
--- the ticket is that of the event
-abbrev pub IsTicket : List ℕ → ℕ → ℕ → Type 0
-IsTicket events t e = slice_get events t ≡ Some e
-
 -- what is answered later, of what is asked
 abbrev pub kind_of : Asked → Option Question
 kind_of (ask.PeerSet index) = Some question.PeerSet
 kind_of ask.Subscribe = Some question.Updates
 kind_of ask.Blocked = Some question.Blocked
 kind_of _ = None
-
--- the events of the tickets of a kind
-abbrev pub tickets_of : Tickets → Question → List ℕ
-tickets_of t question.PeerSet = t.questions
-tickets_of t question.Updates = t.updates
-tickets_of t question.Blocked = t.blocked
 
 -- the ticket is that of the event, where what it asks is answered later
 abbrev pub HasTicket : Tickets → Option Question → ℕ → ℕ → Type 0
@@ -167,8 +159,8 @@ pub record TrackerStands (configs : List Config) (log : List Entry) (n : ℕ) (t
   pub works : t.actor.has_failed ≡ false
   pub local : t.oracle.local ≡ key_at configs n
   pub most : t.oracle.max_peers_per_set ≡ most_peers_at configs n
-  -- the mailbox is the line
-  pub is_open : t.mailbox.desk.messages.closed ≡ false
+  -- the mailbox is the line, and it has closed where the node has stopped
+  pub closed : t.mailbox.desk.messages.closed ≡ is_stopped log n
   pub size : t.mailbox.desk.messages.capacity ≡ mailbox_size_at configs n
   pub names : t.names ≡ map name_of (line log (queue.Tracker n))
   pub messages : Match (λ x m. IsMessage t.tickets log x.item m) (line log (queue.Tracker n)) t.mailbox.desk.messages.items
@@ -179,8 +171,11 @@ pub record TrackerStands (configs : List Config) (log : List Entry) (n : ℕ) (t
   pub sets : length t.mailbox.desk.sets ≡ length t.tickets.blocked
   pub subscribed : Match (IsTicket t.tickets.updates) t.actor.updates (update_subscriptions log n)
   pub subscribed_blocked : Match (IsTicket t.tickets.blocked) t.actor.sets (blocked_subscriptions log n)
+  -- each subscription to the blocked keys is asked for once
+  pub rises : Rises 0 (length t.mailbox.desk.sets) (t.actor.sets ++ flat_map blocked_asked t.mailbox.desk.messages.items)
   -- who may be answered, and who was
-  pub asked : (d : ℕ) → table.at t.questions d ≡ asks_at log n d
+  pub tickets : TicketsStand t.tickets t.questions
+  pub asked : (d : ℕ) → asked_for (table.at t.questions d) ≡ asks_at log n d
   pub answered : (d : ℕ) → asks_at log n d ≡ Some question.PeerSet → is_some (table.at t.answered d) ≡ was_answered log d
   pub fresh : AreFresh log t.answered
   -- which connections of the node have ended
@@ -191,5 +186,7 @@ pub record TrackerStands (configs : List Config) (log : List Entry) (n : ℕ) (t
   pub heard : HeardStands t.mailbox.heard (line log (queue.Addresses n))
   pub handshakes : (k : ℕ) → HandshakeStands (line_of t.mailbox.handshakes k) (is_handshaking log n k) (line log (queue.Handshake n k))
   pub distinct : AreDistinct t.mailbox.handshakes
+  -- what waits at the desk for those who asked by the oracle is what the names stand for
+  pub polled : DeskStands n t.tickets t.answered (held t.told) t.mailbox.desk
   -- what waits for those who asked is their line
   pub told : (q : Queue) → is_told n q ≡ true → held t.told q ≡ line log q

@@ -2,9 +2,9 @@
 ghost use Rattle.std.specs.Prelude.{◌≡◌, [], ◌∷◌, ◌++◌, length, IfOk, OnOk};
 ghost use Rattle.p2p_tracker_mailbox.specs.Desk.{told_of, with_message, asked, subscribed, blocked_subscribed};
 ghost use Rattle.p2p_tracker_mailbox.specs.declared.message.Message.TheVariants as message;
-ghost use Rattle.p2p_net_tracker.specs.Asking.{asking_row, track_answer, tracked_by, asks_for, with_question, with_updates, with_blocked, ask_answer, after_asking};
+ghost use Rattle.p2p_net_tracker.specs.Asking.{asking_row, names_told, track_answer, tracked_by, asks_for, with_question, with_updates, with_blocked, ask_answer, after_asking};
 
-use crate::question::Question;
+use crate::question::{Question, Ticket};
 use crate::tracker::Tracker;
 use p2p_address::Address;
 use p2p_base::{Feedback, Key, Map};
@@ -15,8 +15,8 @@ use p2p_net_queues::{Turn, only};
 use std::alloc::AllocError;
 
 impl Tracker {
-    /// Asks what an event asks: the message waits in the tracker's mailbox under the number of the event. A set that is too
-    /// large is not asked for.
+    /// Asks what an event asks: the message waits in the tracker's mailbox under the number of the event, unless that has closed. A
+    /// set that is too large is not asked for.
     ///
     /// `Err` only where there is no memory.
     pub fn ask(&mut self, turn: Turn, asked: &Asked) -> Result<Row, AllocError>
@@ -80,45 +80,54 @@ impl Tracker {
     // Asks who is in a set.
     fn peer_set(&mut self, turn: Turn, index: u64) -> Result<Row, AllocError>
         ensures row { IfOk result (λ r. r ≡ asking_row (told_of self.old.mailbox.desk) turn.node turn.entry) }
-        ensures after { OnOk result (self.new ≡ with_question (asks_for self.old turn.entry (asked self.old.mailbox.desk index)) turn.entry) }
+        ensures after { OnOk result (self.new ≡ with_question (asks_for self.old turn.entry (asked self.old.mailbox.desk index)) turn.entry (length self.old.mailbox.desk.questions)) }
     {
-        let (_, told) = self
+        let (number, told) = self
             .oracle
             .peer_set(turn.alloc, &mut self.mailbox.desk, index)?;
         self.tickets.questions.push(turn.entry)?;
-        self.questions.insert(turn.entry, Question::PeerSet)?;
+        let question = Question::PeerSet;
+        self.questions
+            .insert(turn.entry, Ticket { question, number })?;
         Ok(self.asked(turn, told)?)
     }
 
     // Asks for the peer sets that are tracked from now on, and the latest one.
     fn subscribe(&mut self, turn: Turn) -> Result<Row, AllocError>
         ensures row { IfOk result (λ r. r ≡ asking_row (told_of self.old.mailbox.desk) turn.node turn.entry) }
-        ensures after { OnOk result (self.new ≡ with_updates (asks_for self.old turn.entry (subscribed self.old.mailbox.desk)) turn.entry) }
+        ensures after { OnOk result (self.new ≡ with_updates (asks_for self.old turn.entry (subscribed self.old.mailbox.desk)) turn.entry (length self.old.mailbox.desk.updates)) }
     {
-        let (_, told) = self.oracle.subscribe(turn.alloc, &mut self.mailbox.desk)?;
+        let (number, told) = self.oracle.subscribe(turn.alloc, &mut self.mailbox.desk)?;
         self.tickets.updates.push(turn.entry)?;
-        self.questions.insert(turn.entry, Question::Updates)?;
+        let question = Question::Updates;
+        self.questions
+            .insert(turn.entry, Ticket { question, number })?;
         Ok(self.asked(turn, told)?)
     }
 
     // Asks for the keys that are blocked, now and whenever that changes.
     fn blocked(&mut self, turn: Turn) -> Result<Row, AllocError>
         ensures row { IfOk result (λ r. r ≡ asking_row (told_of self.old.mailbox.desk) turn.node turn.entry) }
-        ensures after { OnOk result (self.new ≡ with_blocked (asks_for self.old turn.entry (blocked_subscribed self.old.mailbox.desk)) turn.entry) }
+        ensures after { OnOk result (self.new ≡ with_blocked (asks_for self.old turn.entry (blocked_subscribed self.old.mailbox.desk)) turn.entry (length self.old.mailbox.desk.sets)) }
     {
-        let (_, told) = self.oracle.blocked(turn.alloc, &mut self.mailbox.desk)?;
+        let (number, told) = self.oracle.blocked(turn.alloc, &mut self.mailbox.desk)?;
         self.tickets.blocked.push(turn.entry)?;
-        self.questions.insert(turn.entry, Question::Blocked)?;
+        let question = Question::Blocked;
+        self.questions
+            .insert(turn.entry, Ticket { question, number })?;
         Ok(self.asked(turn, told)?)
     }
 
-    // The message that was put last has this entry's name, and its mailbox told this of it.
+    // The message that was put last has this entry's name, and its mailbox told this of it. A mailbox that has closed took none.
     fn asked(&mut self, turn: Turn, told: Feedback) -> Result<Row, AllocError>
         ensures row { IfOk result (λ r. r ≡ asking_row told turn.node turn.entry) }
-        ensures after { OnOk result (self.new ≡ record self.old { names = self.old.names ++ (turn.entry, 0) ∷ [] }) }
+        ensures after { OnOk result (self.new ≡ record self.old { names = self.old.names ++ names_told told turn.entry }) }
     {
-        self.names.push((turn.entry, 0))?;
         let mut row = only(turn.alloc, Reply::Feedback(told));
+        if told == Feedback::Closed {
+            return Ok(row);
+        }
+        self.names.push((turn.entry, 0))?;
         row.puts
             .push((Queue::Tracker(turn.node), Item::Call(turn.entry)))?;
         Ok(row)

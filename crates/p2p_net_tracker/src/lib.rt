@@ -15,5 +15,5 @@ pub mod stopping;
 pub mod telling;
 pub mod tracker;
 
-pub use question::Question;
+pub use question::{Question, Ticket};
 pub use tracker::Tracker;

@@ -1,24 +1,31 @@
-//! What those who asked a tracker take.
-ghost use Rattle.std.specs.Prelude.{◌≡◌, IfOk};
+//! What those who asked a tracker take: what the oracle answers them, and the name of it in its queue.
+ghost use Rattle.std.specs.Prelude.{◌≡◌, ◌<◌, drop, length, slice_get, is_some, IfOk, OnOk, IsTrue, if◌then◌else◌};
+ghost use Rattle.p2p_flow.specs.Provided.{is_open};
+ghost use Rattle.p2p_log.specs.declared.queue.Queue.{Queue as Name};
+ghost use Rattle.p2p_log.specs.QueueCode.{same_queue};
 ghost use Rattle.p2p_log_rules.specs.Puts.{is_peer_set as is_answer_test};
-ghost use Rattle.p2p_net_tracker.specs.Reading.{reply_for, no_answer, no_more, ReadsFrom, ReadsAnswer, Answers, Continues};
+ghost use Rattle.p2p_net_queues.specs.Board.{held};
+ghost use Rattle.p2p_net_queues.specs.Tables as table;
+ghost use Rattle.p2p_tracker_mailbox.specs.Desk.{question_at};
+ghost use Rattle.p2p_net_tracker.specs.Reading.{answer_said, update_said, set_said, polled_row, MayAnswer, MayRead, ReadsAnswer, ReadsUpdate, ReadsSet, Answers, Continues};
 
-use crate::question::Question;
+use crate::question::{Question, Ticket};
+use crate::telling::pop_name;
 use crate::tracker::Tracker;
-use p2p_log::{Item, Queue, Reply};
+use p2p_base::{Key, Set};
+use p2p_flow::{Blocker, Ended, PeerSetUpdate, Polled, Provider, TrackedPeers};
+use p2p_log::{Queue, Reply};
 use p2p_log_rules::Row;
 use p2p_net_queues::{Turn, only};
 use std::alloc::{AllocError, Global};
 
-/// What a reader is told of an item.
-fn reply_for(item: Item) -> Reply
-    ensures { result ≡ reply_for item }
+/// What one who asked for a peer set is told of the answer.
+fn answer_said(polled: Polled<Option<TrackedPeers<Key>>>) -> Reply
+    ensures { result ≡ answer_said polled }
 {
-    match item {
-        Item::PeerSet(peers) => Reply::PeerSet(peers),
-        Item::PeerSetUpdate(update) => Reply::Update(update),
-        Item::Blocked(keys) => Reply::Blocked(keys),
-        _ => Reply::Pending,
+    match polled {
+        Polled::Ready(peers) => Reply::PeerSet(peers),
+        Polled::Pending => Reply::Pending,
     }
 }
 
@@ -32,69 +39,92 @@ fn is_answer(reply: &Reply) -> bool
     }
 }
 
-/// What is answered where an answer does not wait: from a node that has stopped there is none to come.
-fn no_answer(stopped: bool) -> Reply
-    ensures { result ≡ no_answer stopped }
+/// What one who subscribed to peer sets is told.
+fn update_said(polled: Result<Polled<PeerSetUpdate<Key>>, Ended>) -> Reply
+    ensures { result ≡ update_said polled }
 {
-    if stopped {
-        Reply::PeerSet(None)
-    } else {
-        Reply::Pending
+    match polled {
+        Ok(Polled::Ready(update)) => Reply::Update(update),
+        Ok(Polled::Pending) => Reply::Pending,
+        Err(_) => Reply::StreamEnded,
     }
 }
 
-/// What is answered where nothing waits for a subscription.
-fn no_more(stopped: bool) -> Reply
-    ensures { result ≡ no_more stopped }
+/// What one who subscribed to the blocked keys is told.
+fn set_said(polled: Result<Polled<Set<Key>>, Ended>) -> Reply
+    ensures { result ≡ set_said polled }
 {
-    if stopped {
-        Reply::StreamEnded
-    } else {
-        Reply::Pending
+    match polled {
+        Ok(Polled::Ready(keys)) => Reply::Blocked(keys),
+        Ok(Polled::Pending) => Reply::Pending,
+        Err(_) => Reply::StreamEnded,
     }
 }
 
 impl Tracker {
-    /// Takes the oldest item of a queue for whoever asked, or answers this where nothing waits.
-    fn read(&mut self, alloc: Global, queue: Queue, empty: Reply) -> Result<Row, AllocError>
-        ensures { IfOk result (λ r. ReadsFrom empty queue self.old self.new r) }
+    // What the oracle answered, with the name of the oldest item of a queue, where one waits there: it is what was answered.
+    fn taken(&mut self, alloc: Global, queue: Queue, said: Reply) -> Result<Row, AllocError>
+        ensures row { IfOk result (λ r. r ≡ polled_row said (slice_get (held self.old.told queue) 0)) }
+        ensures told { OnOk result ((q : Name) → held self.new.told q ≡ (if same_queue queue q then drop 1 (held self.old.told q) else held self.old.told q)) }
+        ensures rest { OnOk result (self.new ≡ record self.old { told = self.new.told }) }
     {
-        match self.told.pop(queue) {
-            None => Ok(only(alloc, empty)),
-            Some(taken) => {
-                let name = (taken.entry, taken.place);
-                let mut row = only(alloc, reply_for(taken.item));
-                row.takes.push(name)?;
-                Ok(row)
-            }
-        }
-    }
-
-    /// Takes the answer to a question for a peer set, unless it was taken before.
-    fn read_answer(&mut self, turn: Turn, question: u64, stopped: bool) -> Result<Row, AllocError>
-        ensures { IfOk result (λ r. ReadsAnswer stopped turn.node question self.old self.new r) }
-    {
-        if self.answered.has(question) {
-            return Ok(only(turn.alloc, Reply::Gone));
-        }
-        let node = turn.node;
-        let queue = Queue::PeerSet { node, question };
-        let row = self.read(turn.alloc, queue, no_answer(stopped))?;
-        if is_answer(&row.reply) {
-            self.answered.insert(question, true)?;
+        let mut row = only(alloc, said);
+        if let Some(name) = pop_name(&mut self.told, queue) {
+            row.takes.push(name)?;
         }
         Ok(row)
+    }
+
+    // The answer to a question for a peer set, which is given once.
+    fn read_answer(&mut self, turn: Turn, question: u64, number: u64) -> Result<Row, AllocError>
+        requires { IsTrue (is_open (question_at self.old.mailbox.desk number)) }
+        ensures { IfOk result (λ r. ReadsAnswer turn.node question number self.old self.new r) }
+    {
+        let polled = self.oracle.poll_peer_set(&mut self.mailbox.desk, number);
+        let said = answer_said(polled);
+        if is_answer(&said) {
+            self.answered.insert(question, true)?;
+        }
+        let node = turn.node;
+        Ok(self.taken(turn.alloc, Queue::PeerSet { node, question }, said)?)
+    }
+
+    // The next update of a subscription to peer sets.
+    fn read_update(&mut self, turn: Turn, question: u64, number: u64) -> Result<Row, AllocError>
+        requires { number < length self.old.mailbox.desk.updates }
+        ensures { IfOk result (λ r. ReadsUpdate turn.node question number self.old self.new r) }
+    {
+        let said = update_said(self.oracle.poll_update(&mut self.mailbox.desk, number));
+        let node = turn.node;
+        Ok(self.taken(turn.alloc, Queue::PeerSetUpdates { node, question }, said)?)
+    }
+
+    // The newest set of a subscription to the blocked keys.
+    fn read_set(&mut self, turn: Turn, question: u64, number: u64) -> Result<Row, AllocError>
+        requires { number < length self.old.mailbox.desk.sets }
+        ensures { IfOk result (λ r. ReadsSet turn.node question number self.old self.new r) }
+    {
+        let said = set_said(self.oracle.poll_blocked(&mut self.mailbox.desk, number));
+        let node = turn.node;
+        Ok(self.taken(turn.alloc, Queue::Blocked { node, question }, said)?)
     }
 
     /// Takes the answer to the question for a peer set that an event asked: once, where it is there. Where its node has stopped and
     /// it is not there, none is to come, and that is the answer.
     ///
     /// `Err` only where there is no memory. The answer may then be taken and told to nobody, and its node goes no further.
-    pub fn answer(&mut self, turn: Turn, question: u64, stopped: bool) -> Result<Row, AllocError>
-        ensures { IfOk result (λ r. Answers stopped turn.node question self.old self.new r) }
+    pub fn answer(&mut self, turn: Turn, question: u64) -> Result<Row, AllocError>
+        requires { MayAnswer (is_some (table.at self.old.answered question)) (table.at self.old.questions question) self.old.mailbox.desk }
+        ensures { IfOk result (λ r. Answers turn.node question self.old self.new r) }
     {
-        match self.questions.get(question) {
-            Some(Question::PeerSet) => Ok(self.read_answer(turn, question, stopped)?),
+        if self.answered.has(question) {
+            return Ok(only(turn.alloc, Reply::Gone));
+        }
+        let Some(ticket) = self.questions.get(question) else {
+            return Ok(only(turn.alloc, Reply::Gone));
+        };
+        match ticket.question {
+            Question::PeerSet => Ok(self.read_answer(turn, question, ticket.number)?),
             _ => Ok(only(turn.alloc, Reply::Gone)),
         }
     }
@@ -102,20 +132,17 @@ impl Tracker {
     /// Takes what comes next for the subscription that an event made. Where its node has stopped and nothing waits, nothing more comes.
     ///
     /// `Err` only where there is no memory. The item may then be taken and told to nobody, and its node goes no further.
-    pub fn next(&mut self, turn: Turn, question: u64, stopped: bool) -> Result<Row, AllocError>
-        ensures { IfOk result (λ r. Continues stopped turn.node question self.old self.new r) }
+    pub fn next(&mut self, turn: Turn, question: u64) -> Result<Row, AllocError>
+        requires { MayRead (table.at self.old.questions question) self.old.mailbox.desk }
+        ensures { IfOk result (λ r. Continues turn.node question self.old self.new r) }
     {
-        let node = turn.node;
-        match self.questions.get(question) {
-            Some(Question::Updates) => {
-                let queue = Queue::PeerSetUpdates { node, question };
-                Ok(self.read(turn.alloc, queue, no_more(stopped))?)
-            }
-            Some(Question::Blocked) => {
-                let queue = Queue::Blocked { node, question };
-                Ok(self.read(turn.alloc, queue, no_more(stopped))?)
-            }
-            _ => Ok(only(turn.alloc, Reply::Gone)),
+        let Some(ticket) = self.questions.get(question) else {
+            return Ok(only(turn.alloc, Reply::Gone));
+        };
+        match ticket.question {
+            Question::PeerSet => Ok(only(turn.alloc, Reply::Gone)),
+            Question::Updates => Ok(self.read_update(turn, question, ticket.number)?),
+            Question::Blocked => Ok(self.read_set(turn, question, ticket.number)?),
         }
     }
 }

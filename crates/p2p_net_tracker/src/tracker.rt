@@ -5,7 +5,7 @@ ghost use Rattle.p2p_net_tracker.specs.Begins.{IsNew};
 ghost use Rattle.p2p_net_tracker.specs.Stepping.{Steps};
 
 use crate::naming::Tickets;
-use crate::question::Question;
+use crate::question::Ticket;
 use crate::telling::tell;
 use p2p_base::Key;
 use p2p_log::{Config, Envelope, Reply};
@@ -14,8 +14,8 @@ use p2p_net_queues::{Board, Deque, Table, Turn, only, taking};
 use p2p_tracker::{Actor, Config as TrackerConfig, Mailbox, Oracle, Stepped};
 use std::alloc::{AllocError, Global};
 
-/// The tracker of a node: its actor with the mailbox, the names of the messages that wait there, whose questions its tickets
-/// are, and what waits for those who asked.
+/// The tracker of a node: its actor with the mailbox, at whose desk the oracle finds what it was answered; and beside them the
+/// names of the messages that wait there and of what waits for those who asked.
 pub struct Tracker {
     /// The actor.
     pub actor: Actor<Key>,
@@ -27,9 +27,9 @@ pub struct Tracker {
     pub names: Deque<(u64, u64)>,
     /// The events whose questions its tickets are.
     pub tickets: Tickets,
-    /// What each event asked that may be answered.
-    pub questions: Table<Question>,
-    /// The questions for peer sets whose answer was taken.
+    /// What each event asked that may be answered, and under which number.
+    pub questions: Table<Ticket>,
+    /// The questions for peer sets whose answer was given.
     pub answered: Table<bool>,
     /// The connections of the node that have ended.
     pub ended: Table<()>,
