@@ -69,7 +69,7 @@ use Rattle.p2p_net_connections.specs.Spawner.{refuses}
 use Rattle.p2p_net_connections.specs.SpawnerStands.{SpawnerStands}
 use Rattle.p2p_net_connections.proofs.SpawnerChanges.{spawner_refuses}
 use Rattle.p2p_net_tracker.specs.Dialed.{names_asked}
-use Rattle.p2p_net_tracker.specs.GivenBack.{side_freed_by, IsOfSide, IsGivenBack}
+use Rattle.p2p_net_tracker.specs.GivenBack.{side_freed_by, IsOfSide}
 use Rattle.p2p_net_tracker.specs.Stands.{is_told, TrackerStands}
 use Rattle.p2p_net_tracker.specs.declared.tracker.Tracker.{Tracker}
 use Rattle.p2p_net_tracker.proofs.DialerSteps.{tracker_dialed}
