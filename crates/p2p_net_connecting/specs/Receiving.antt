@@ -14,7 +14,6 @@ use Rattle.p2p_log_rules.specs.Effect.{only, hold_row, other_side}
 use Rattle.p2p_log_rules.specs.Rows.{taken_row}
 use Rattle.p2p_net_queues.specs.Tables as table
 use Rattle.p2p_net_queues.specs.Tables.{waiting, popped_at}
-use Rattle.p2p_net_channels.specs.declared.arrival.Arrived.{Arrived}
 use Rattle.p2p_net_channels.specs.declared.arrival.Arriving.{Arriving}
 use Rattle.p2p_net_channels.specs.declared.arrival.Arriving.TheVariants as arriving
 use Rattle.p2p_net_channels.specs.declared.channels.Channels.{Channels}
