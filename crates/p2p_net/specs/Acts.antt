@@ -10,7 +10,6 @@ use Rattle.p2p_net_links.specs.declared.links.Links.{Links}
 use Rattle.p2p_net_gates.specs.Attempts.{Resolves, AnswersDial}
 use Rattle.p2p_net_tracker.specs.Asking.{ask_answer, after_asking}
 use Rattle.p2p_net_tracker.specs.Reading.{Answers, Continues}
-use Rattle.p2p_net_tracker.specs.declared.tracker.Tracker.{Tracker}
 use Rattle.p2p_net_node.specs.Staying.{Stays, Tracks, TellsAttempt}
 use Rattle.p2p_net_connecting.specs.Connecting.{SendSteps}
 use Rattle.p2p_net_node.specs.Ready.{is_node_up}

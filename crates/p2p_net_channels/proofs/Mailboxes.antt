@@ -17,9 +17,9 @@ use Rattle.p2p_log.specs.declared.item.Item.TheVariants as item
 use Rattle.p2p_log.specs.Lines.{name_of}
 use Rattle.p2p_log_rules.specs.Closing.{refused_by}
 use Rattle.p2p_log_rules.specs.Effect.{oldest_read, read_row}
-use Rattle.p2p_net_queues.specs.Tables.{at, waiting, pushed_at, popped_at, cleared_at}
+use Rattle.p2p_net_queues.specs.Tables.{at, waiting, pushed_at, cleared_at}
 use Rattle.p2p_net_queues.proofs.Tables.{lookup-set, same_name, at-inserted, waiting-pushed_at, waiting-popped_at, waiting-cleared_at}
-use Rattle.p2p_net_channels.specs.Channels.{places_in, places_of, capacity_at, is_closed_in, is_closed, refusal_in, refusal, named_with, told_as, told_row, read_told, named_after}
+use Rattle.p2p_net_channels.specs.Channels.{places_in, places_of, capacity_at, is_closed_in, is_closed, refusal_in, refusal, named_with, told_as, read_told, named_after}
 use Rattle.p2p_net_channels.specs.Stands.{received, AreNamed, NameMailboxes}
 use Rattle.p2p_net_channels.specs.declared.channels.Channels.{Channels}
 

@@ -39,7 +39,7 @@ use Rattle.p2p_net_node.proofs.Frames.{begins_unsent, links_kept}
 use Rattle.p2p_net_node.proofs.Receivers.{receives_apart}
 use Rattle.p2p_net_node.proofs.Readying.{started_is}
 use Rattle.p2p_net_node.proofs.Performing.{asked, Performs, IsStill, line-still, part_still, stays_performs}
-use Rattle.p2p_net_tracker.proofs.Steps.{first_taken}
+use Rattle.p2p_net_tracker.proofs.StepFacts.{first_taken}
 use Rattle.p2p_log_rules.specs.Connections.{is_begun, is_ended, live_connection}
 use Rattle.p2p_log_rules.proofs.Connections.{is_ended-kept, ends_untold}
 

@@ -1,7 +1,6 @@
 -- The connections of a node with one that has begun, or that took its router's answer.
 use Rattle.std.proofs.Common.{◌≡◌, ℕ, Bool, true, false, cond, List, [], ◌∷◌, ◌++◌, refl, ap, sym, ◌∙◌, eqb-true, Option, Some, None}
 use Rattle.std.specs.Prelude.{◌==◌, ◌||◌, is_some}
-use Rattle.std.specs.List.{list_any}
 use Rattle.std.specs.BTreeMap.{insert_entry}
 use Rattle.std.specs.Ordering.{nat_cmp}
 use Rattle.p2p_log_rules.proofs.Bools.{or_true}

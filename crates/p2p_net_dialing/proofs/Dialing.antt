@@ -64,7 +64,7 @@ use Rattle.p2p_net_tracker.specs.Stands.{is_told, IsMessage, IsAnswer, TrackerSt
 use Rattle.p2p_net_tracker.specs.declared.naming.Tickets.{Tickets}
 use Rattle.p2p_net_tracker.proofs.Changes.{told_apart, kept_open}
 use Rattle.p2p_net_tracker.proofs.DialerSteps.{is_taken_of, tracker_dialed, told_moved, mailbox_moved, none_left, answer_left}
-use Rattle.p2p_net_tracker.proofs.Steps.{none_taken, first_taken}
+use Rattle.p2p_net_tracker.proofs.StepFacts.{none_taken, first_taken}
 use Rattle.p2p_net_node.specs.Places as place
 use Rattle.p2p_net_node.specs.Ready.{is_node_up}
 use Rattle.p2p_net_dialing.specs.Dialing.{DialedBy, DialerStepsBy}

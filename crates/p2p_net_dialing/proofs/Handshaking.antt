@@ -1,5 +1,5 @@
 -- The acts of the handshakes of a node's listener.
-use Rattle.std.proofs.Common.{◌≡◌, ℕ, Bool, true, false, cond, List, [], ◌∷◌, ◌++◌, drop, length, refl, ap, sym, subst, ◌∙◌, eq-eqb, eqb-true, Option, Some, None}
+use Rattle.std.proofs.Common.{◌≡◌, ℕ, Bool, true, false, cond, List, [], ◌∷◌, ◌++◌, drop, length, refl, ap, sym, subst, ◌∙◌, eq-eqb, Option, Some, None}
 use Rattle.std.specs.Prelude.{filter, ◌==◌, ◌&&◌, ◌||◌, not, nat_le, is_some, if◌then◌else◌}
 use Rattle.std.specs.List.{list_any}
 use Rattle.std.specs.Option.{option_map}
@@ -31,7 +31,7 @@ use Rattle.p2p_log.specs.declared.entry.Reply.TheVariants as reply
 use Rattle.p2p_log.specs.declared.event.Event.{Event}
 use Rattle.p2p_log.specs.declared.event.Act.TheVariants as act
 use Rattle.p2p_log.specs.QueueCode.{same_queue}
-use Rattle.p2p_log.specs.Lines.{name_of, placed, goes, live, line, stays, stands_in}
+use Rattle.p2p_log.specs.Lines.{name_of, goes, live, line, stays, stands_in}
 use Rattle.p2p_log.proofs.QueueNames.{queue_from_same}
 use Rattle.p2p_log_rules.proofs.Connections.{ends_untold}
 use Rattle.p2p_log_rules.specs.declared.row.Row.{Row}
@@ -69,7 +69,7 @@ use Rattle.p2p_log_rules.proofs.HandshakeBegun.{source_at-longer}
 use Rattle.p2p_net_tracker.proofs.GivenBack.{given_now, handshake_gives}
 use Rattle.p2p_net_tracker.proofs.HandshakeSteps.{after_step, left_after, tracker_after_handshake, line_of-dropped, line_of-ended, line_of-dropped_ended}
 use Rattle.p2p_net_tracker.proofs.Moved.{asked_desk, IsAsked}
-use Rattle.p2p_net_tracker.proofs.Steps.{none_taken, first_taken}
+use Rattle.p2p_net_tracker.proofs.StepFacts.{none_taken, first_taken}
 use Rattle.p2p_net_dialing.specs.Dialing.{HandshakeStepBy, HandsOn, HandsOnBy, link_over, Shakes}
 use Rattle.p2p_net_node.specs.Places as place
 use Rattle.p2p_net_node.specs.Stands.{PartStands, NodeStands}
@@ -77,9 +77,9 @@ use Rattle.p2p_net_node.specs.declared.node.Node.{Node}
 use Rattle.p2p_net_dialing.proofs.DroppedEnds.{ended_with, dropped, goes_by, is_of_link, told_unlinked, unlinked_stay, LeavesLinks, end_by, DidBeside}
 use Rattle.p2p_net_node.proofs.EachPart.{AllOf}
 use Rattle.p2p_net_dialing.proofs.HandingOn.{Handed, nothing, question, connection, handed_puts, item_in, message_in, spawner_after, IsOnItsSide, asked_on_its_side, none_subscribed, HandedOn, nothing_asked, question_asked, connection_refused, connection_asked}
-use Rattle.p2p_net_dialing.proofs.HandingOn.{all_gone, none_gone, handed_unlinked, line_asked, line_elsewhere, line_told, handed_spawner, tracker_after}
+use Rattle.p2p_net_dialing.proofs.HandingOn.{all_gone, none_gone, line_asked, line_elsewhere, line_told, handed_spawner, tracker_after}
 use Rattle.p2p_net_node.proofs.Performing.{asked, is_quiet, IsStill, part_still}
-use Rattle.p2p_net_dialing.proofs.Shaken.{left_is, linked_elsewhere, named, no_end, broken_end, firsts, lost_by, Shaken}
+use Rattle.p2p_net_dialing.proofs.Shaken.{left_is, links_left, unmoved, named, no_end, broken_end, firsts, lost_by, Shaken}
 
 module _ (configs : List Config) (log : List Entry) (moment seed name n : ℕ) (x y : Node) (r : Row) (s : NodeStands configs log n x) (steps : Shakes (length log) n name moment x y r) (heard : HandshakeDialed log n name)
     (running_lasts : is_handshaking log n name ≡ true → is_stopped log n ≡ false) where
@@ -153,14 +153,6 @@ module _ (configs : List Config) (log : List Entry) (moment seed name n : ℕ) (
     leaves = subst (LeavesLinks log) (sym r_is) leaves;
   }
 
-  -- a row that moves of this line alone leaves the links alone
-  links_left : (due : Row) (o : Handed) (rest : Queue → List Envelope) → due.puts ≡ handed_puts n o
-      → ((p : Queue) → filter (stands_in p) (filter (stays (goes_by due)) (live log)) ≡ cond (same_queue q p) (rest p) (line log p)) → LeavesLinks log due
-  links_left due o rest puts stay = record {
-    kept = λ t j. stay (queue.Link j t) ∙ ap (λ c. cond c (rest (queue.Link j t)) (line log (queue.Link j t))) (linked_elsewhere n name t j);
-    unput = λ t j. ap (λ l. filter (stands_in (queue.Link j t)) (placed (length log) 0 l)) puts ∙ handed_unlinked n (length log) o t j;
-  }
-
   -- whether the code keeps the handshake, or makes a connection of it
   abbrev keeps_by : Option (Handshaking Key) → Option (Handshaking Key) → Option LinkEnd
   keeps_by now before = end_by (is_some now || list_any is_spawn r.puts) (link_over before) side.In
@@ -190,18 +182,10 @@ module _ (configs : List Config) (log : List Entry) (moment seed name n : ℕ) (
               (subst (TrackerStands configs (log ++ e due ∷ []) n) (sym same) (part_still place.tracker configs log (e due) n x (act.Handshake name n) rep tracked refl quiet moves))
               (hears (part_still place.listener configs log (e due) n x (act.Handshake name n) rep listens refl quiet moves))
               (subst (SpawnerStands configs (log ++ e due ∷ []) n) (sym spawning_is) (part_still place.spawner configs log (e due) n x (act.Handshake name n) rep spawns refl quiet moves))
-              (links_left due nothing (λ p. waits) refl (none_gone log q waits refl)));
+              (links_left log n name due nothing (λ p. waits) refl (none_gone log q waits refl)));
           took = unbroken (taken log (e r)) ∙ sym (unbroken (firsts waits));
           keeps = keeps ∙ sym none_lost;
         }
-
-  -- the handshake of this name is what it was
-  unmoved : (o : Option (Handshaking Key)) → table.at x.listening.handshakes name ≡ o → (k : ℕ) → cond (k == name) o (table.at x.listening.handshakes k) ≡ table.at x.listening.handshakes k
-  unmoved o there k = by (k == name) refl
-    where
-      by : (b : Bool) → (k == name) ≡ b → cond b o (table.at x.listening.handshakes k) ≡ table.at x.listening.handshakes k
-      by true is = sym there ∙ ap (table.at x.listening.handshakes) (sym (eqb-true k name is))
-      by false is = refl
 
   -- none of this name runs
   gone : table.at x.listening.handshakes name ≡ None → is_handshaking log n name ≡ false → Done
@@ -210,7 +194,7 @@ module _ (configs : List Config) (log : List Entry) (moment seed name n : ℕ) (
       subst (λ o. StepsHandshake o name moment x.listening mid.listening m mid.tracker.mailbox steps.step) there steps.steps in
       let tracks : HandshakeStepBy handshake.Gone n name x.tracker mid.tracker steps.taken = subst (λ w. HandshakeStepBy w n name x.tracker mid.tracker steps.taken) d.did steps.tracks in
       still reply.Gone refl (λ items. refl) (row_by false waits none refl) tracks.0 (subst (λ w. HandsOnBy w (length log) n mid y steps.taken r) d.did steps.hands) tracks.1 d.mailbox
-      (λ hears. listener_untouched configs (log ++ e (only reply.Gone) ∷ []) n x.listening mid.listening hears d.rest (λ k. d.others k ∙ unmoved None there k))
+      (λ hears. listener_untouched configs (log ++ e (only reply.Gone) ∷ []) n x.listening mid.listening hears d.rest (λ k. d.others k ∙ unmoved x name None there k))
       (ap (keeps_by (table.at y.listening.handshakes name)) there ∙ no_end (is_some (table.at y.listening.handshakes name) || list_any is_spawn r.puts) side.In)
 
   -- ---- one runs
@@ -252,7 +236,7 @@ module _ (configs : List Config) (log : List Entry) (moment seed name n : ℕ) (
         still reply.Idle refl (λ items. refl) row_is tracks.0 hands tracks.1 d.mailbox
         (λ hears. listener_same configs (log ++ e (only reply.Idle) ∷ []) n x.listening mid.listening hears
         (d.rest ∙ ap (λ b. record x.listening { actor = listening.freed_if b x.listening.actor; handshakes = mid.listening.handshakes; ends = mid.listening.ends }) is.runs)
-        (λ k. d.others k ∙ (ap (λ b. cond (k == name) (cond b None (Some h)) (table.at x.listening.handshakes k)) is.runs ∙ unmoved (Some h) there k))
+        (λ k. d.others k ∙ (ap (λ b. cond (k == name) (cond b None (Some h)) (table.at x.listening.handshakes k)) is.runs ∙ unmoved x name (Some h) there k))
         (λ k. d.ends k ∙ ap (λ b. ends_left b h.arrival.link (table.at x.listening.ends) k) is.runs))
         (ap (λ o. keeps_by o (table.at x.listening.handshakes name))
         (ap (λ (z : Node). table.at z.listening.handshakes name) hands.1 ∙ (stands_now (idle_turn h m) d ∙ ap (λ b. cond b None (Some h)) is.runs)))
@@ -346,7 +330,7 @@ module _ (configs : List Config) (log : List Entry) (moment seed name n : ℕ) (
           })))
           (subst (SpawnerStands configs (log ++ e due ∷ []) n) (sym (on.spawner ∙ ap (spawner_after (length log) o) spawning_is))
           (handed_spawner log (e due) n o puts configs x.spawning spawns right (left_in (queue.Spawner n) refl)))
-          (links_left due o (λ p. left_after ended (line log p)) puts stay)
+          (links_left log n name due o (λ p. left_after ended (line log p)) puts stay)
           in
           record { did = did; took = took_same due_is; keeps = keeps_same due_is (ap (λ (z : Node). table.at z.listening.handshakes name) on.rest) }
 

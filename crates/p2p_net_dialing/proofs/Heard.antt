@@ -1,5 +1,5 @@
 -- What a step of a listener comes to, but for the end of an arrival that it turns away, and which end it drops.
-use Rattle.std.proofs.Common.{◌≡◌, ℕ, true, false, cond, List, [], ◌∷◌, length, refl, ap, ◌∙◌, Option, Some, None}
+use Rattle.std.proofs.Common.{◌≡◌, ℕ, Bool, true, false, cond, List, [], ◌∷◌, drop, length, refl, ap, sym, ◌∙◌, Option, Some, None}
 use Rattle.std.specs.Prelude.{filter}
 use Rattle.p2p_base.specs.declared.key.Key.{Key}
 use Rattle.p2p_tracker_calls.specs.declared.gates.Reply.{Reply as GatesReply}
@@ -14,15 +14,17 @@ use Rattle.p2p_log.specs.declared.item.Item.TheVariants as item
 use Rattle.p2p_log.specs.declared.item.Envelope.{Envelope}
 use Rattle.p2p_log.specs.declared.entry.Entry.{Entry}
 use Rattle.p2p_log.specs.declared.entry.Reply.{Reply}
+use Rattle.p2p_log.specs.declared.entry.Reply.TheVariants as reply
 use Rattle.p2p_log.specs.declared.event.Event.{Event}
 use Rattle.p2p_log.specs.declared.event.Act.TheVariants as act
 use Rattle.p2p_log.specs.QueueCode.{same_queue}
+use Rattle.p2p_log.proofs.QueueNames.{queue_from_same}
 use Rattle.p2p_log.specs.Lines.{name_of, placed, stands_in, line}
 use Rattle.p2p_log_rules.specs.declared.row.Row.{Row}
 use Rattle.p2p_log_rules.specs.Dropping.{LinkEnd, arrival_end, arriving_end, listener_step_row}
 use Rattle.p2p_log_rules.specs.Effect.{only, row, entry_of}
-use Rattle.p2p_log_rules.specs.Facts.{taken}
-use Rattle.p2p_log_rules.specs.Listening.{gates_puts, listener_row}
+use Rattle.p2p_log_rules.specs.Facts.{is_up, taken}
+use Rattle.p2p_log_rules.specs.Listening.{gate_rules_at, known_of, has_place, gates_puts, listener_turn, listener_row}
 use Rattle.p2p_log_rules.specs.Puts.{turns_away}
 use Rattle.p2p_net_queues.proofs.Going.{first_left}
 use Rattle.p2p_net_node.specs.Places as place
@@ -71,6 +73,18 @@ pub record Heard (configs : List Config) (log : List Entry) (ev : Event) (n : �
 pub step_row : (configs : List Config) (log : List Entry) (moment seed n : ℕ) → row configs log moment seed (act.Listener n) ≡ listener_step_row configs log n moment
 unfolding row
 step_row configs log moment seed n = refl
+
+-- a turn of a listener of a node that runs, by what waits for it
+pub turn_row : (configs : List Config) (log : List Entry) (n moment : ℕ) → is_up log n ≡ true → (us zs : List Envelope) → line log (queue.Addresses n) ≡ us → line log (queue.Arrivals n) ≡ zs
+    → listener_row configs log n moment ≡ listener_turn (gate_rules_at configs n) (known_of configs log n) (has_place configs log n) n (length log) moment us zs
+turn_row configs log n moment up us zs u z =
+    let turn : List Envelope → List Envelope → Row = listener_turn (gate_rules_at configs n) (known_of configs log n) (has_place configs log n) n (length log) moment in
+    ap (λ b. cond b (turn (line log (queue.Addresses n)) (line log (queue.Arrivals n))) (only reply.Gone)) up ∙ (ap (λ q. turn q (line log (queue.Arrivals n))) u ∙ ap (turn us) z)
+
+-- where one waits alone, none is what is left when the first is taken
+pub only_first : (log : List Entry) (q : Queue) (z : Envelope) → line log q ≡ z ∷ [] → (p : Queue) (b : Bool) → same_queue q p ≡ b → cond b [] (line log p) ≡ cond b (drop 1 (line log p)) (line log p)
+only_first log q z one p true same = sym (ap (drop 1) (ap (line log) (queue_from_same q p same) ∙ one))
+only_first log q z one p false other = refl
 
 -- ---- what it takes and asks is in no link
 

@@ -33,7 +33,6 @@ use Rattle.p2p_log.specs.declared.event.Event.{Event}
 use Rattle.p2p_log.specs.declared.event.Act.TheVariants as act
 use Rattle.p2p_log.specs.QueueCode.{same_queue}
 use Rattle.p2p_log.specs.Lines.{name_of, line}
-use Rattle.p2p_log.proofs.QueueNames.{queue_from_same}
 use Rattle.p2p_log.proofs.Queues.{same_queue-refl}
 use Rattle.p2p_log_rules.proofs.Connections.{ends_untold}
 use Rattle.p2p_log_rules.specs.declared.row.ListeningEnd.{ListeningEnd}
@@ -67,13 +66,13 @@ use Rattle.p2p_net_tracker.specs.Dialed.{taken_names}
 use Rattle.p2p_net_tracker.specs.Stands.{is_told, HeardStands, TrackerStands}
 use Rattle.p2p_net_tracker.proofs.Changes.{told_apart, tracker_frame, kept_open}
 use Rattle.p2p_net_tracker.proofs.ListenerSteps.{tracker_updated, tracker_asked}
-use Rattle.p2p_net_tracker.proofs.Steps.{none_taken, first_taken}
+use Rattle.p2p_net_tracker.proofs.StepFacts.{none_taken, first_taken}
 use Rattle.p2p_net_node.specs.Places as place
 use Rattle.p2p_net_dialing.specs.Dialing.{refused_by, ListenedBy}
 use Rattle.p2p_net_node.specs.Stands.{NodeStands}
 use Rattle.p2p_net_node.specs.declared.node.Node.{Node}
 use Rattle.p2p_net_dialing.proofs.DroppedEnds.{dropped, is_of_link, told_unlinked, unlinked_stay, LeavesLinks, end_by}
-use Rattle.p2p_net_dialing.proofs.Heard.{told_no_arrivals, asked_for, refused_for, lost_by, Heard, update_leaves, arrival_leaves, idle_leaves}
+use Rattle.p2p_net_dialing.proofs.Heard.{told_no_arrivals, turn_row, only_first, asked_for, refused_for, lost_by, Heard, update_leaves, arrival_leaves, idle_leaves}
 use Rattle.p2p_net_node.proofs.Performing.{asked, IsStill, line-still, part_still}
 
 module _ (configs : List Config) (log : List Entry) (moment seed n : ℕ) (x y : Node) (r : Row) (over : Option ℕ) (s : NodeStands configs log n x) (late : latest_moment (events_of log) ≤ moment) (up : is_up log n ≡ true)
@@ -129,11 +128,6 @@ module _ (configs : List Config) (log : List Entry) (moment seed n : ℕ) (x y :
   -- the entry of a row, with the end that it drops
   abbrev e : Row → Entry
   e due = entry_of ev (dropped log (lost_by log n due) due)
-
-  row_by : (us zs : List Envelope) → updates ≡ us → arrivals ≡ zs → listener_row configs log n moment ≡ log_rule.listener_turn rules known place_free n k moment us zs
-  row_by us zs u z =
-      ap (λ b. cond b (log_rule.listener_turn rules known place_free n k moment updates arrivals) (only reply.Gone)) up
-      ∙ (ap (λ q. log_rule.listener_turn rules known place_free n k moment q arrivals) u ∙ ap (log_rule.listener_turn rules known place_free n k moment us) z)
 
   -- its step tells no handshake anything
   tells_none : (due : Row) (j : ℕ) → TellsNothing log (e due) n j
@@ -210,14 +204,9 @@ module _ (configs : List Config) (log : List Entry) (moment seed n : ℕ) (x y :
         line-append log (e due_update) p
         ∙ (ap (λ xs. xs ++ []) (first_left log (queue.Addresses n) z [] one p) ∙ append-nil (cond (same_queue (queue.Addresses n) p) [] (line log p)))
 
-    -- the only one is the first
-    only_first : (p : Queue) (b : Bool) → same_queue (queue.Addresses n) p ≡ b → cond b [] (line log p) ≡ cond b (drop 1 (line log p)) (line log p)
-    only_first p true same = sym (ap (drop 1) (ap (line log) (queue_from_same (queue.Addresses n) p same) ∙ one))
-    only_first p false other = refl
-
     updated : Tracks (Some takes.Update) → Done
     updated tracks =
-        let row_is : listener_row configs log n moment ≡ due_update = row_by (z ∷ []) arrivals one refl in
+        let row_is : listener_row configs log n moment ≡ due_update = turn_row configs log n moment up (z ∷ []) arrivals one refl in
         let told : held x.tracker.told (queue.Addresses n) ≡ z ∷ [] = tracked.told (queue.Addresses n) (eq-eqb n n refl) ∙ one in
         let took_is : taken log (e due_update) ≡ item.Addresses ips ∷ [] = first_taken log (e due_update) (queue.Addresses n) z [] one refl ∙ ap (λ i. i ∷ []) is in
         performs due_update row_is (tracks.0 ∙ ap (λ (xs : List Envelope). record { reply = reply.Ok; takes = taken_names true xs; puts = []; ends = [] }) told)
@@ -231,7 +220,7 @@ module _ (configs : List Config) (log : List Entry) (moment seed n : ℕ) (x y :
           no_admission = begins_none due_update refl;
           rest = tracks.1.1 ∙ ap (λ w. record x.tracker { mailbox = w; told = y.tracker.told }) (way_is T_update turn_update);
           mailbox = line_update (queue.Tracker n);
-          lines = λ p own. line_update p ∙ only_first p (same_queue (queue.Addresses n) p) refl;
+          lines = λ p own. line_update p ∙ only_first log (queue.Addresses n) z one p (same_queue (queue.Addresses n) p) refl;
           told = tracks.1.0;
         }))
         (hears_by due_update T_update (item.Addresses ips ∷ []) turn_update took_is tt
@@ -259,7 +248,7 @@ module _ (configs : List Config) (log : List Entry) (moment seed n : ℕ) (x y :
         let same : y.tracker ≡ x.tracker = nothing.1 ∙ ap (λ w. record x.tracker { mailbox = w }) (way_is T turn_is) in
         let still : IsStill (e due) reply.Idle = record { reply = refl; takes = refl; puts = refl; ends = refl } in
         let line_same : line (log ++ e due ∷ []) (queue.Arrivals n) ≡ arrivals = line-still log (e due) reply.Idle (queue.Arrivals n) still in
-        performs due (row_by [] [] quiet none) nothing.0
+        performs due (turn_row configs log n moment up [] [] quiet none) nothing.0
         (subst (TrackerStands configs (log ++ e due ∷ []) n) (sym same) (part_still place.tracker configs log (e due) n x (act.Listener n) reply.Idle tracked refl refl still))
         (hears_by due T [] turn_is (none_taken log (e due) refl) tt (listens.names ∙ ap (map name_of) (sym line_same)) (ap (map (λ (w : Envelope). w.item)) line_same ∙ listens.items) refl (places_kept due refl)
         (handshakes_kept configs log (e due) n x.listening.handshakes (begins_none due refl) (tells_none due) listens.handshakes)
@@ -282,7 +271,7 @@ module _ (configs : List Config) (log : List Entry) (moment seed n : ℕ) (x y :
       due told = arrival_told_row n k (name_of z) a.key told
 
       row_is : listener_row configs log n moment ≡ due told_by
-      row_is = row_by [] (z ∷ zs) quiet first ∙ ap (log_rule.arrived_row rules known place_free n k moment (name_of z)) is
+      row_is = turn_row configs log n moment up [] (z ∷ zs) quiet first ∙ ap (log_rule.arrived_row rules known place_free n k moment (name_of z)) is
 
       abbrev T_told : GatesReply → ListenerTurn Key
       T_told told = arrival_turn actor known m k moment told a

@@ -1,8 +1,11 @@
 -- What a step of a handshake comes to, but for the end of its link, and which end it drops.
-use Rattle.std.proofs.Common.{◌≡◌, ℕ, Bool, true, false, cond, List, [], ◌∷◌, map, take, refl, Option, Some, None}
-use Rattle.std.specs.Prelude.{◌&&◌, ◌||◌, not, is_some}
+use Rattle.std.proofs.Common.{◌≡◌, ℕ, Bool, true, false, cond, List, [], ◌∷◌, map, take, length, refl, ap, sym, ◌∙◌, eqb-true, Option, Some, None}
+use Rattle.std.specs.Prelude.{◌&&◌, ◌||◌, ◌==◌, not, is_some, filter}
 use Rattle.std.specs.List.{list_any}
+use Rattle.p2p_base.specs.declared.key.Key.{Key}
+use Rattle.p2p_gates.specs.Handshaking.{Handshaking}
 use Rattle.p2p_log.specs.declared.config.Config.{Config}
+use Rattle.p2p_log.specs.declared.queue.Queue.{Queue}
 use Rattle.p2p_log.specs.declared.queue.Queue.TheVariants as queue
 use Rattle.p2p_log.specs.declared.queue.Side.{Side}
 use Rattle.p2p_log.specs.declared.queue.Side.TheVariants as side
@@ -12,7 +15,7 @@ use Rattle.p2p_log.specs.declared.entry.Entry.{Entry}
 use Rattle.p2p_log.specs.declared.event.Event.{Event}
 use Rattle.p2p_log.specs.declared.event.Act.TheVariants as act
 use Rattle.p2p_log.specs.QueueCode.{same_queue}
-use Rattle.p2p_log.specs.Lines.{line}
+use Rattle.p2p_log.specs.Lines.{placed, stands_in, stays, live, line}
 use Rattle.p2p_log_rules.specs.declared.row.Row.{Row}
 use Rattle.p2p_log_rules.specs.Dropping.{LinkEnd, handshake_step_row, listening_end}
 use Rattle.p2p_log_rules.specs.Puts.{is_spawn, broke_off}
@@ -26,7 +29,8 @@ use Rattle.p2p_net_tracker.proofs.HandshakeSteps.{left_after}
 use Rattle.p2p_net_dialing.specs.Dialing.{link_over}
 use Rattle.p2p_net_node.specs.Places as place
 use Rattle.p2p_net_node.specs.declared.node.Node.{Node}
-use Rattle.p2p_net_dialing.proofs.DroppedEnds.{dropped, end_by, DidBeside}
+use Rattle.p2p_net_dialing.proofs.DroppedEnds.{dropped, end_by, DidBeside, goes_by, LeavesLinks}
+use Rattle.p2p_net_dialing.proofs.HandingOn.{Handed, handed_puts, handed_unlinked}
 
 -- whichever way an item is taken, the rest is left
 pub left_is : (took ended : Bool) → cond ended true took ≡ true → (l : List Envelope) → left_of took ended l ≡ left_after ended l
@@ -39,6 +43,23 @@ left_is false false h l = cc
 pub linked_elsewhere : (n name : ℕ) (s : Side) (j : ℕ) → same_queue (queue.Handshake n name) (queue.Link j s) ≡ false
 linked_elsewhere n name side.Out j = refl
 linked_elsewhere n name side.In j = refl
+
+-- a row that moves of a handshake's line alone leaves the links alone
+pub links_left : (log : List Entry) (n name : ℕ) (due : Row) (o : Handed) (rest : Queue → List Envelope) → due.puts ≡ handed_puts n o
+    → ((p : Queue) → filter (stands_in p) (filter (stays (goes_by due)) (live log)) ≡ cond (same_queue (queue.Handshake n name) p) (rest p) (line log p)) → LeavesLinks log due
+links_left log n name due o rest puts stay = record {
+  kept = λ t j. stay (queue.Link j t) ∙ ap (λ c. cond c (rest (queue.Link j t)) (line log (queue.Link j t))) (linked_elsewhere n name t j);
+  unput = λ t j. ap (λ l. filter (stands_in (queue.Link j t)) (placed (length log) 0 l)) puts ∙ handed_unlinked n (length log) o t j;
+}
+
+-- the handshake of this name is what it was
+pub unmoved : (x : Node) (name : ℕ) (o : Option (Handshaking Key)) → table.at x.listening.handshakes name ≡ o
+    → (k : ℕ) → cond (k == name) o (table.at x.listening.handshakes k) ≡ table.at x.listening.handshakes k
+unmoved x name o there k = by (k == name) refl
+  where
+    by : (b : Bool) → (k == name) ≡ b → cond b o (table.at x.listening.handshakes k) ≡ table.at x.listening.handshakes k
+    by true is = sym there ∙ ap (table.at x.listening.handshakes) (sym (eqb-true k name is))
+    by false is = refl
 
 -- the parts that a step of a handshake changes
 abbrev pub named : List place.Part

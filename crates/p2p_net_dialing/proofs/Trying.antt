@@ -75,7 +75,7 @@ use Rattle.p2p_net_tracker.specs.declared.tracker.Tracker.{Tracker}
 use Rattle.p2p_net_tracker.proofs.DialerSteps.{tracker_dialed}
 use Rattle.p2p_net_tracker.proofs.GivenBack.{given_now, attempt_gives}
 use Rattle.p2p_net_tracker.proofs.Moved.{asked_line, names_are, asked_messages, asked_desk, IsAsked, asked_match, asked_back, desk_grows}
-use Rattle.p2p_net_tracker.proofs.Steps.{none_taken, first_taken}
+use Rattle.p2p_net_tracker.proofs.StepFacts.{none_taken, first_taken}
 use Rattle.p2p_net_dialing.specs.Dialing.{HandsOn, TriesAttempt, AttemptSteps}
 use Rattle.p2p_net_node.specs.Places as place
 use Rattle.p2p_net_dialing.specs.Spawning.{release_item}

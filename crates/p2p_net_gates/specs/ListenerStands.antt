@@ -1,5 +1,5 @@
 -- When the listener of a node stands for a log.
-use Rattle.std.specs.Prelude.{◌≡◌, ◌==◌, ◌≤◌, ℕ, Bool, true, false, List, ◌∷◌, [], ◌++◌, map, length, Option, Some, None}
+use Rattle.std.specs.Prelude.{◌≡◌, ◌≤◌, ℕ, Bool, true, false, List, ◌∷◌, [], ◌++◌, map, length, Option, Some, None}
 use Rattle.p2p_base.specs.declared.key.Key.{Key}
 use Rattle.p2p_gates.specs.Gates.{rules_of}
 use Rattle.p2p_gates.specs.Handshaking.{Handshaking}

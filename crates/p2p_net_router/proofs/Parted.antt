@@ -1,13 +1,13 @@
 -- What the end of a connection by its own step leaves of its router: its relay was closed with what waited there, and its key released.
-use Rattle.std.proofs.Common.{◌≡◌, ℕ, ◌-◌, Bool, true, false, cond, List, [], ◌∷◌, ◌++◌, length, drop, take, refl, ap, sym, subst, ◌∙◌, arith, Option, Some, None}
-use Rattle.std.specs.Prelude.{filter, map, ◌==◌}
+use Rattle.std.proofs.Common.{◌≡◌, ℕ, ◌-◌, true, false, cond, List, [], ◌∷◌, ◌++◌, length, drop, refl, ap, sym, subst, ◌∙◌, arith, Option, Some, None}
+use Rattle.std.specs.Prelude.{filter, ◌==◌}
 use Rattle.std.specs.List.{list_any}
 use Rattle.std.specs.BTreeMap.{BTreeMap, get, is_at}
 use Rattle.std.specs.Ordering.{nat_cmp}
 use Rattle.std.proofs.lemmas.Bool.Decides.{nat_tests}
 use Rattle.p2p_base.specs.declared.key.Key.{Key}
 use Rattle.p2p_base.specs.Queue.{with_items}
-use Rattle.p2p_flow.specs.Lanes.{Lanes, closed_lanes}
+use Rattle.p2p_flow.specs.Lanes.{closed_lanes}
 use Rattle.p2p_router.specs.Mailbox.{appended}
 use Rattle.p2p_router.specs.Messenger.{Desk, is_bound, in_mailbox}
 use Rattle.p2p_router.specs.Routes.{Routes}
@@ -26,7 +26,7 @@ use Rattle.p2p_log.specs.Apart.{AreApart}
 use Rattle.p2p_log_rules.specs.Effect.{mailbox_size_at}
 use Rattle.p2p_net_queues.specs.declared.board.Board.{Board}
 use Rattle.p2p_net_queues.specs.Board.{held}
-use Rattle.p2p_net_router.specs.Batches.{batch_of, all_of, AreKept}
+use Rattle.p2p_net_router.specs.Batches.{all_of, AreKept}
 use Rattle.p2p_net_router.specs.Ends.{AreEnded, closed_link, IsIdle, tells_ready}
 use Rattle.p2p_net_router.specs.Holds.{Holds, routes_in}
 use Rattle.p2p_net_router.specs.Items.{key_cmp}
@@ -38,11 +38,11 @@ use Rattle.p2p_net_router.proofs.Batched.{over_kept}
 use Rattle.p2p_net_router.proofs.Batches.{left}
 use Rattle.p2p_net_router.proofs.Beside.{moved_to}
 use Rattle.p2p_net_router.proofs.Closing.{LacksPeer}
-use Rattle.p2p_net_router.proofs.Copying.{relayed, ends_set}
+use Rattle.p2p_net_router.proofs.Copying.{ends_set}
 use Rattle.p2p_net_router.proofs.Emptied.{whole, none_high, none_low, all_beside}
 use Rattle.p2p_net_router.proofs.Linking.{link_of-with_link, routes_in-with_link}
 use Rattle.p2p_net_router.proofs.Taken.{relinked, IsKept}
-use Rattle.p2p_net_router.proofs.Written.{cut, less, set_twice, kept_cut, Holds-written}
+use Rattle.p2p_net_router.proofs.Written.{cut, less, set_twice, Holds-written}
 
 same_key : (k : Key) → (k.0 == k.0) ≡ true
 same_key k = grind (arith, nat_tests)

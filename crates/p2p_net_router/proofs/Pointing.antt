@@ -16,7 +16,7 @@ use Rattle.p2p_net_router.specs.Items.{key_cmp}
 use Rattle.std.specs.BTreeMap.{get}
 use Rattle.p2p_net_router.specs.Ends.{AreEnded}
 use Rattle.p2p_net_router.specs.Items.{messages_in}
-use Rattle.p2p_net_router.specs.Sound.{IsSound, IsInTurn, IsAwaited, said_of}
+use Rattle.p2p_net_router.specs.Sound.{IsSound, IsInTurn, said_of}
 use Rattle.p2p_net_router.specs.declared.router.Router.{Router}
 use Rattle.p2p_net_router.proofs.Copying.{key_from}
 

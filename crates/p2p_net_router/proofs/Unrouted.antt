@@ -1,5 +1,5 @@
 -- Entries that leave alone what a node's router has.
-use Rattle.std.proofs.Common.{◌≡◌, ℕ, false, List, [], ◌∷◌}
+use Rattle.std.proofs.Common.{◌≡◌, ℕ, false, List, []}
 use Rattle.std.specs.Prelude.{◌==◌}
 use Rattle.p2p_log.specs.declared.entry.Entry.{Entry}
 use Rattle.p2p_log.specs.declared.event.Act.TheVariants as act

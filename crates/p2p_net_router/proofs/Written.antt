@@ -1,38 +1,35 @@
 -- What a connection's own step took out of its relay: so many of each lane, with their names.
-use Rattle.std.proofs.Common.{◌≡◌, ℕ, ◌-◌, Bool, true, false, cond, List, [], ◌∷◌, ◌++◌, length, drop, take, min, refl, ap, sym, subst, ◌∙◌, arith, Option, Some, None}
-use Rattle.std.specs.Prelude.{filter, map, slice_get, ◌==◌, ◌&&◌}
-use Rattle.std.specs.BTreeMap.{BTreeMap, get}
-use Rattle.std.specs.Ordering.{nat_cmp}
+use Rattle.std.proofs.Common.{◌≡◌, ℕ, ◌-◌, Bool, true, false, cond, List, [], ◌∷◌, length, drop, take, min, refl, ap, sym, subst, ◌∙◌, arith, Some}
+use Rattle.std.specs.Prelude.{filter, map, ◌==◌, ◌&&◌}
 use Rattle.std.proofs.lemmas.Bool.{false≢true}
 use Rattle.std.proofs.lemmas.List.{drop-map, length-map, length-take}
 use Rattle.std.proofs.lemmas.Bool.Decides.{nat_tests}
 use Rattle.std.specs.Map.{set_value}
 use Rattle.std.specs.BTreeMap.{is_at}
 use Rattle.p2p_base.specs.declared.key.Key.{Key}
-use Rattle.p2p_base.specs.Queue.{Queue as Waiting, with_items}
-use Rattle.p2p_flow.specs.Lanes.{Lanes, lane, with_lane}
+use Rattle.p2p_base.specs.Queue.{with_items}
+use Rattle.p2p_flow.specs.Lanes.{Lanes, lane}
 use Rattle.p2p_wire.specs.declared.encoded.EncodedData.{EncodedData}
 use Rattle.p2p_router.specs.Routing.{link_of, with_link}
 use Rattle.p2p_router.specs.declared.link.Link.{Link}
 use Rattle.p2p_log.specs.declared.queue.Queue.{Queue}
 use Rattle.p2p_log.specs.declared.queue.Queue.TheVariants as queue
-use Rattle.p2p_log.specs.declared.item.Item.{Item}
 use Rattle.p2p_log.specs.declared.item.Envelope.{Envelope}
 use Rattle.p2p_log.specs.QueueCode.{same_queue}
-use Rattle.p2p_log.specs.Lines.{name_of, stays, stands_in}
+use Rattle.p2p_log.specs.Lines.{stands_in}
 use Rattle.p2p_log_rules.specs.Effect.{relay_queue}
 use Rattle.p2p_log.specs.Apart.{AreApart}
 use Rattle.p2p_net_queues.specs.declared.board.Board.{Board}
 use Rattle.p2p_net_queues.specs.Board.{held}
 use Rattle.p2p_net_router.specs.Names.{Agrees, is_routers, label, bare_item}
 use Rattle.p2p_net_router.specs.Items.{key_cmp, messages_in, frame_item, frames_of, items_of}
-use Rattle.p2p_net_router.specs.Sound.{IsOpen, IsSound, said_of}
+use Rattle.p2p_net_router.specs.Sound.{IsOpen, said_of}
 use Rattle.p2p_net_router.specs.Holds.{Holds}
 use Rattle.p2p_net_router.specs.declared.router.Router.{Router}
 use Rattle.p2p_net_router.specs.declared.name.Name.{Name}
 use Rattle.p2p_net_router.proofs.Agreeing.{line_same}
 use Rattle.p2p_net_router.proofs.Batches.{left, line_left, line_beside, AreApart-left}
-use Rattle.p2p_net_router.proofs.Contents.{own_lane, lane_items}
+use Rattle.p2p_net_router.proofs.Contents.{own_lane}
 use Rattle.p2p_net_router.proofs.Emptied.{left_twice}
 use Rattle.p2p_net_router.proofs.Taking.{take_two}
 use Rattle.p2p_net_router.proofs.Linking.{link_of-with_link}

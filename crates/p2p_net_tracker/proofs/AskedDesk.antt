@@ -1,5 +1,5 @@
 -- One ticket more: the tickets stand, and so does the desk, which has a place for it.
-use Rattle.std.proofs.Common.{◌≡◌, ℕ, zero, suc, Bool, true, false, cond, List, [], ◌∷◌, ◌++◌, length, refl, ap, sym, subst, ◌∙◌, arith, Option, Some, None, ◌⊎◌, inl, inr}
+use Rattle.std.proofs.Common.{◌≡◌, ℕ, zero, suc, Bool, true, false, cond, List, [], ◌∷◌, ◌++◌, length, refl, ap, sym, subst, ◌∙◌, arith, Some, None, ◌⊎◌, inl, inr}
 use Rattle.std.specs.Prelude.{is_some, slice_get, slice_index_or}
 use Rattle.std.specs.BTreeMap.{is_at, insert_entry}
 use Rattle.std.specs.Ordering.{nat_cmp}
@@ -7,7 +7,7 @@ use Rattle.std.proofs.lemmas.Bool.Decides.{nat_tests}
 use Rattle.p2p_base.specs.Queue.{Queue as Waiting}
 use Rattle.p2p_base.specs.declared.key.Key.{Key}
 use Rattle.p2p_flow.specs.Provided.{unanswered, given}
-use Rattle.p2p_tracker_mailbox.specs.Desk.{Desk, question_at, updates_at, set_of}
+use Rattle.p2p_tracker_mailbox.specs.Desk.{Desk}
 use Rattle.p2p_tracker_mailbox.specs.declared.message.Message.{Message}
 use Rattle.p2p_log.specs.declared.item.Envelope.{Envelope}
 use Rattle.p2p_log.specs.declared.queue.Queue.{Queue}

@@ -1,5 +1,5 @@
 -- A node's dialer takes an answer, or none, and asks something, or nothing: the tracker stands for the log with that entry.
-use Rattle.std.proofs.Common.{◌≡◌, ℕ, Bool, true, false, cond, List, [], ◌∷◌, ◌++◌, map, drop, length, refl, ap, sym, subst, ◌∙◌, append-nil, eq-eqb, None}
+use Rattle.std.proofs.Common.{◌≡◌, ℕ, Bool, true, false, cond, List, [], ◌∷◌, ◌++◌, map, drop, refl, ap, sym, subst, ◌∙◌, append-nil, eq-eqb, None}
 use Rattle.std.specs.Prelude.{filter, ◌&&◌, if◌then◌else◌, flat_map}
 use Rattle.p2p_log_rules.proofs.Bools.{and_false}
 use Rattle.p2p_base.specs.declared.key.Key.{Key}

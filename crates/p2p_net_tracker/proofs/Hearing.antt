@@ -19,7 +19,7 @@ use Rattle.p2p_tracker_calls.specs.BlockedKeys.{blocked_keys}
 use Rattle.p2p_tracker_calls.specs.Blocks.{is_blockable}
 use Rattle.p2p_tracker_calls.specs.Keeping.{kept_of}
 use Rattle.p2p_tracker_calls.specs.Kills.{killed_keys}
-use Rattle.p2p_tracker_calls.specs.Lives.{address_of, accepts, is_overwritten}
+use Rattle.p2p_tracker_calls.specs.Lives.{address_of, accepts}
 use Rattle.p2p_tracker_calls.specs.Overwrites.{overwritten, overwritten_keys}
 use Rattle.p2p_tracker_calls.specs.Peers.{latest_update}
 use Rattle.p2p_tracker_calls.specs.Rules.{Rules}

@@ -25,6 +25,7 @@ pub mod Puts
 pub mod Questions
 pub mod Rings
 pub mod Serving
+pub mod StepFacts
 pub mod StepLeft
 pub mod SetsOnce
 pub mod Steps

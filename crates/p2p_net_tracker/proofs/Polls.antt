@@ -12,7 +12,6 @@ use Rattle.p2p_flow.specs.declared.tracked.TrackedPeers.{TrackedPeers}
 use Rattle.p2p_flow.specs.declared.update.PeerSetUpdate.{PeerSetUpdate}
 use Rattle.p2p_tracker_mailbox.specs.Desk.{Desk, question_at, answer_taken, updates_at, update_taken, set_of, set_taken}
 use Rattle.p2p_log.specs.declared.entry.Reply.TheVariants as reply
-use Rattle.p2p_log.specs.declared.item.Item.TheVariants as item
 use Rattle.p2p_log.specs.declared.item.Envelope.{Envelope}
 use Rattle.p2p_log.specs.declared.queue.Queue.{Queue}
 use Rattle.p2p_log.specs.declared.queue.Queue.TheVariants as queue

@@ -1,5 +1,5 @@
 -- What holds of each thing that a tracker puts, by parts of what it puts.
-use Rattle.std.proofs.Common.{ℕ, Bool, true, false, cond, List, [], ◌∷◌, ◌++◌, Option, Some, None}
+use Rattle.std.proofs.Common.{ℕ, Bool, true, false, cond, List, [], ◌∷◌, Option, Some, None}
 use Rattle.std.specs.Prelude.{slice_index_or, slice_set}
 use Rattle.std.specs.List.{AllByRecursion as Each}
 use Rattle.p2p_address.specs.declared.peer.Address.{Address}

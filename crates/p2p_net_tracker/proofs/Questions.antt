@@ -49,7 +49,7 @@ use Rattle.p2p_net_tracker.specs.declared.question.Question.{Question}
 use Rattle.p2p_net_tracker.specs.declared.question.Ticket.{Ticket}
 use Rattle.p2p_net_tracker.specs.declared.question.Question.TheVariants as question
 use Rattle.p2p_net_tracker.specs.declared.tracker.Tracker.{Tracker}
-use Rattle.p2p_net_tracker.specs.Asking.{asking_row, names_told, asks_for, size_by, track_answer, tracked_by, message_of, ask_answer, after_asking}
+use Rattle.p2p_net_tracker.specs.Asking.{asking_row, names_told, asks_for, size_by, track_answer, tracked_by, ask_answer, after_asking}
 use Rattle.p2p_net_tracker.specs.AtDesk.{AnswerStands, IsUpdate, SetStands, asked_for, Rises, blocked_asked}
 use Rattle.p2p_net_tracker.specs.Stands.{kind_of, asks_of, asks_at, Says, TrackerStands}
 use Rattle.p2p_net_tracker.proofs.AskedDesk.{given_to, still_given, tickets_more, asked_peers, asked_updates, asked_sets}

@@ -1,5 +1,5 @@
 -- Of each subscription to the blocked keys a step puts at most one set, since the numbers of those that are told rise.
-use Rattle.std.proofs.Common.{◌≡◌, ℕ, ◌+◌, ◌≤◌, Bool, true, false, cond, List, [], ◌∷◌, ◌++◌, sym, subst, arith, Option, Some}
+use Rattle.std.proofs.Common.{◌≡◌, ℕ, ◌+◌, ◌≤◌, Bool, true, false, cond, List, [], ◌∷◌, ◌++◌, arith, Option, Some}
 use Rattle.std.specs.Prelude.{slice_set, ◌==◌}
 use Rattle.std.specs.List.{AllByRecursion as Each}
 use Rattle.std.proofs.lemmas.Bool.Decides.{nat_tests}
@@ -7,7 +7,7 @@ use Rattle.p2p_address.specs.declared.ip.IpAddr.{IpAddr}
 use Rattle.p2p_base.specs.declared.key.Key.{Key}
 use Rattle.p2p_tracker_calls.specs.declared.call.Call.{Call}
 use Rattle.p2p_tracker_calls.specs.declared.call.Call.TheVariants as call
-use Rattle.p2p_tracker_calls.specs.Allows.{is_acceptable, allows_listen}
+use Rattle.p2p_tracker_calls.specs.Allows.{is_acceptable}
 use Rattle.p2p_tracker_calls.specs.BlockedKeys.{blocked_keys}
 use Rattle.p2p_tracker_calls.specs.Blocks.{is_blockable}
 use Rattle.p2p_tracker_calls.specs.Keeping.{kept_of}

@@ -1,25 +1,21 @@
 -- A step of a node's tracker: its row is the log's, and it stands for the log with that entry.
-use Rattle.std.proofs.Common.{◌≡◌, ℕ, Bool, true, false, cond, List, [], ◌∷◌, ◌++◌, map, drop, length, refl, ap, sym, subst, ◌∙◌, arith, eq-eqb, append-nil, append_assoc, Option, Some, inl}
+use Rattle.std.proofs.Common.{◌≡◌, ℕ, Bool, true, false, cond, List, [], ◌∷◌, ◌++◌, map, drop, length, refl, ap, sym, subst, ◌∙◌, append-nil, Option, Some, inl}
 use Rattle.std.specs.Prelude.{filter, flat_map, slice_get, count_by}
 use Rattle.std.specs.List.{list_any, IsDistinct, AllByRecursion as Each}
 use Rattle.std.specs.Map.{keys_of}
-use Rattle.std.specs.BTreeMap.{is_at}
 use Rattle.std.specs.Ordering.{nat_cmp, eq_by_cmp}
-use Rattle.std.proofs.lemmas.Bool.Decides.{nat_tests}
 use Rattle.p2p_base.specs.declared.key.Key.{Key}
 use Rattle.p2p_base.specs.Queue as base
 use Rattle.p2p_tracker_calls.specs.declared.call.Call.{Call}
 use Rattle.p2p_tracker_calls.specs.declared.call.Call.TheVariants as call
 use Rattle.p2p_tracker_calls.specs.BlockedKeys.{due_keys}
 use Rattle.p2p_tracker_calls.specs.Jitter.{jitter_of}
-use Rattle.p2p_tracker_calls.specs.Named.{EqualKeysAreOne}
 use Rattle.p2p_tracker_calls.specs.Rules.{Rules}
 use Rattle.p2p_tracker_mailbox.specs.Desk.{next_message}
 use Rattle.p2p_tracker_mailbox.specs.Lines.{line_of}
 use Rattle.p2p_tracker_mailbox.specs.Mailboxes.{runs_in}
 use Rattle.p2p_tracker_mailbox.specs.declared.mailbox.Mailbox.{Mailbox}
 use Rattle.p2p_tracker_mailbox.specs.declared.message.Message.{Message}
-use Rattle.p2p_tracker_mailbox.specs.declared.message.Message.TheVariants as message
 use Rattle.p2p_tracker.specs.Following.{Follows}
 use Rattle.p2p_tracker.specs.Serving.{calls_by, left_in}
 use Rattle.p2p_tracker.specs.Steps.{unblocked, puts_for, stepped_of, taken_or_idle, by_step, updates_for, sets_for}
@@ -38,14 +34,13 @@ use Rattle.p2p_log.specs.declared.entry.Reply.TheVariants as reply
 use Rattle.p2p_log.specs.Lines.{name_of, ended_item, goes, stays, live, line, placed, stands_in}
 use Rattle.p2p_log_rules.specs.declared.row.Row.{Row}
 use Rattle.p2p_log_rules.specs.Connections.{is_ended}
-use Rattle.p2p_log_rules.specs.Facts.{taken, item_named}
+use Rattle.p2p_log_rules.specs.Facts.{taken}
 use Rattle.p2p_log_rules.specs.Handshakes.{is_handshaking}
 use Rattle.p2p_log_rules.specs.Rows.{only, taken_row}
 use Rattle.p2p_log_rules.specs.Tracking.{key_cmp, rules_at, grants_peer, calls_of, update_subscriptions, blocked_subscriptions}
 use Rattle.p2p_log_rules.specs.TrackerPuts as puts
 use Rattle.p2p_log_rules.specs.TrackerPuts.{heeded}
 use Rattle.p2p_log_rules.specs.TrackerRows.{rings_of, tracker_told_row, served_row, tracker_step}
-use Rattle.p2p_log_rules.proofs.Recorded.{item_named-first}
 use Rattle.p2p_net_queues.specs.Board.{held}
 use Rattle.p2p_net_queues.proofs.Going.{line-kept}
 use Rattle.p2p_net_tracker.specs.declared.tracker.Tracker.{Tracker}
@@ -60,61 +55,18 @@ use Rattle.p2p_net_tracker.specs.Stands.{is_told, IsTicket, IsMessage, IsAnswer,
 use Rattle.p2p_net_tracker.proofs.AtDesk.{IsTicketed, desk-held, desk-after}
 use Rattle.p2p_net_tracker.proofs.Desk.{all_left}
 use Rattle.p2p_net_tracker.proofs.Dialing.{answers_in, answers-after, answers-named}
-use Rattle.p2p_log_rules.proofs.Calls.{item_calls, step_calls, call_where, subscribes, subscribes_blocked, calls_of-append, update_subscriptions-append, blocked_subscriptions-append}
+use Rattle.p2p_log_rules.proofs.Calls.{item_calls, step_calls}
 use Rattle.p2p_net_tracker.proofs.LateKills.{without_late, each-late, heeded-same, named-late, mailbox-late, few-late, grants-late, unblocked-late}
 use Rattle.p2p_net_tracker.proofs.Hearing.{TellsFew, few_dialed, runs_is, unblocked_once, item_few, heard-after, handshakes-after, keys-after}
 use Rattle.p2p_net_queues.proofs.Matching.{Match-append}
 use Rattle.p2p_net_tracker.proofs.Named.{has_any-is, named-unblocked, named-item}
 use Rattle.p2p_net_tracker.proofs.Rings.{is_same}
 use Rattle.p2p_net_tracker.proofs.SetsOnce.{SetsOnce, unblocked_sets, message_sets, sets-late, rises_first}
+use Rattle.p2p_net_tracker.proofs.StepFacts.{calls-step, equal_keys, first_taken, none_taken, rises_taken, sets-step, updates-step}
 use Rattle.p2p_net_tracker.proofs.StepLeft.{step_entry, stands_after}
 use Rattle.p2p_net_tracker.proofs.Ticketed.{unblocked_ticketed, item_ticketed}
 use Rattle.p2p_net_tracker.proofs.Serving.{AskerRuns, item-calls, item-updates, item-sets}
 use Rattle.p2p_net_tracker.proofs.ToldLines.{named-each, Told, holds_told, mailbox-told, dialer-told, heard-told, handshake-told, lost_is, away_none, away_first, mailbox_first}
-
-pub equal_keys : EqualKeysAreOne key_cmp
-equal_keys p q h = ap (λ n. record { 0 = n }) (same p.0 q.0 h)
-  where
-    same : (a b : ℕ) → is_at (nat_cmp a) b ≡ true → a ≡ b
-    same a b h = grind (arith, nat_tests)
-
--- ---- the facts after a step, by what it took
-
--- once the step's reply and what it took are known
-calls-step : (configs : List Config) (log : List Entry) (at seed n : ℕ) (r : Row) (items : List Item) → taken log (step_entry at seed n r) ≡ items
-    → calls_of configs (log ++ step_entry at seed n r ∷ []) n ≡ step_calls log r.reply items at (jitter_of (rules_at configs n).cooldown seed) (list_any grants_peer r.puts) (calls_of configs log n)
-calls-step configs log at seed n r items is =
-    let calls = calls_of configs log n in
-    let after : List Item → List (Call Key) = λ l. step_calls log r.reply l at (jitter_of (rules_at configs n).cooldown seed) (list_any grants_peer r.puts) calls in
-    calls_of-append configs log (step_entry at seed n r) n
-    ∙ (ap (λ b. cond b (after (taken log (step_entry at seed n r))) calls) (eq-eqb n n refl) ∙ ap after is)
-
-updates-step : (log : List Entry) (at seed n : ℕ) (r : Row) (items : List Item) → taken log (step_entry at seed n r) ≡ items
-    → update_subscriptions (log ++ step_entry at seed n r ∷ []) n ≡ update_subscriptions log n ++ flat_map (call_where subscribes log) items
-updates-step log at seed n r items is =
-    update_subscriptions-append log (step_entry at seed n r) n
-    ∙ ap (λ l. update_subscriptions log n ++ l) (ap (λ b. cond b (flat_map (call_where subscribes log) (taken log (step_entry at seed n r))) []) (eq-eqb n n refl) ∙ ap (flat_map (call_where subscribes log)) is)
-
-sets-step : (log : List Entry) (at seed n : ℕ) (r : Row) (items : List Item) → taken log (step_entry at seed n r) ≡ items
-    → blocked_subscriptions (log ++ step_entry at seed n r ∷ []) n ≡ blocked_subscriptions log n ++ flat_map (call_where subscribes_blocked log) items
-sets-step log at seed n r items is =
-    blocked_subscriptions-append log (step_entry at seed n r) n
-    ∙ ap (λ l. blocked_subscriptions log n ++ l) (ap (λ b. cond b (flat_map (call_where subscribes_blocked log) (taken log (step_entry at seed n r))) []) (eq-eqb n n refl) ∙ ap (flat_map (call_where subscribes_blocked log)) is)
-
-pub none_taken : (log : List Entry) (e : Entry) → e.takes ≡ [] → taken log e ≡ []
-unfolding taken
-none_taken log e h = ap (flat_map (item_named log)) h
-
-pub first_taken : (log : List Entry) (e : Entry) (q : Queue) (x : Envelope) (rest : List Envelope) → line log q ≡ x ∷ rest → e.takes ≡ name_of x ∷ [] → taken log e ≡ x.item ∷ []
-unfolding taken
-first_taken log e q x rest first h = ap (flat_map (item_named log)) h ∙ (append-nil (item_named log (name_of x)) ∙ item_named-first log q x rest first)
-
--- what a message asks for is told from then on
-rises_taken : (last : ℕ) (sets : List ℕ) (m : Message Key) (ms : List (Message Key)) → Rises 0 last (sets ++ flat_map blocked_asked (m ∷ ms)) → Rises 0 last (sets_for m sets ++ flat_map blocked_asked ms)
-rises_taken last sets (message.SubscribeBlocked ticket) ms h = subst (Rises 0 last) (sym (append_assoc sets (ticket ∷ []) (flat_map blocked_asked ms))) h
-rises_taken last sets _ ms h = h
-
--- ---- by what the actor did
 
 module _ (configs : List Config) (log : List Entry) (at seed n : ℕ) (t u : Tracker) (r : Row) (s : TrackerStands configs log n t) where
   abbrev calls : List (Call Key)

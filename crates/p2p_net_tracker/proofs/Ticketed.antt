@@ -1,5 +1,5 @@
 -- What a step puts for those who asked has tickets that were given.
-use Rattle.std.proofs.Common.{◌≡◌, ℕ, Bool, true, false, cond, List, [], ◌∷◌, ◌++◌, sym, subst, Option, Some}
+use Rattle.std.proofs.Common.{ℕ, Bool, true, false, cond, List, [], ◌∷◌, ◌++◌, sym, subst, Option, Some}
 use Rattle.std.specs.List.{AllByRecursion as Each}
 use Rattle.p2p_address.specs.declared.ip.IpAddr.{IpAddr}
 use Rattle.p2p_base.specs.declared.key.Key.{Key}
@@ -19,7 +19,6 @@ use Rattle.p2p_tracker_mailbox.specs.declared.message.Message.{Message}
 use Rattle.p2p_tracker.specs.Putting.{kills_of, overwrite_kills, listen_grant}
 use Rattle.p2p_tracker.specs.Steps.{heard_put, registered, unblocked, puts_for}
 use Rattle.p2p_tracker.specs.Telling.{has_any, kill_put, told_of_sets, sets_put}
-use Rattle.p2p_tracker.specs.declared.stepped.Put.{Put}
 use Rattle.p2p_tracker.specs.declared.stepped.Put.TheVariants as put
 use Rattle.p2p_log.specs.declared.asked.Asked.{Asked}
 use Rattle.p2p_log.specs.declared.asked.Asked.TheVariants as ask
