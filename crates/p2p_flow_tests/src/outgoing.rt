@@ -3,7 +3,7 @@ use bytes::Bytes;
 use p2p_base::Pushed;
 use p2p_flow::Relay;
 use p2p_flow_connection::{Control, Outbox, Prioritized, Throttle};
-use p2p_peer::peer::{Mailbox, Message};
+use p2p_lookup::peer::{Mailbox, Message};
 use p2p_runtime::Quota;
 use p2p_wire::EncodedData;
 use std::alloc::{AllocError, Global};

@@ -1,3 +1,10 @@
+pub mod Beginning
+pub mod Connection
+pub mod Lends
 pub mod Networks
 pub mod Presets
+pub mod Ready
+pub mod Receiving
+pub mod Sending
 pub mod Sizing
+pub mod Spawning

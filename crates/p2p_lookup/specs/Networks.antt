@@ -4,7 +4,7 @@ use Rattle.p2p_runtime.specs.QuotaLaw.{Rate}
 use Rattle.p2p_flow_senders.specs.Registering.{Registered}
 use Rattle.p2p_gates.specs.Listening.{Listening, StandsFor, new_listener}
 use Rattle.p2p_gates.specs.declared.config.Config.{Config as GatesConfig}
-use Rattle.p2p_peer.specs.declared.peer.config.Config.{Config as ConnectionConfig}
+use Rattle.p2p_lookup.specs.declared.peer.config.Config.{Config as ConnectionConfig}
 use Rattle.p2p_tracker.specs.declared.config.Config.{Config as TrackerConfig}
 use Rattle.p2p_tracker_calls.specs.Gates.{nothing_known}
 use Rattle.p2p_tracker_mailbox.specs.Mailboxes.{closed_mailbox}

@@ -8,8 +8,8 @@ use Rattle.std.specs.Ordering.{nat_cmp}
 use Rattle.std.proofs.lemmas.Bool.{false≢true}
 use Rattle.std.proofs.lemmas.Bool.Decides.{nat_tests}
 use Rattle.p2p_base.specs.declared.key.Key.{Key}
-use Rattle.p2p_peer.specs.declared.spawner.message.Message.{Message}
-use Rattle.p2p_peer.specs.declared.spawner.message.Message.TheVariants as asked_for
+use Rattle.p2p_lookup.specs.declared.spawner.message.Message.{Message}
+use Rattle.p2p_lookup.specs.declared.spawner.message.Message.TheVariants as asked_for
 use Rattle.p2p_log.specs.declared.config.Config.{Config}
 use Rattle.p2p_log.specs.declared.entry.Entry.{Entry}
 use Rattle.p2p_log.specs.declared.event.Act.TheVariants as act

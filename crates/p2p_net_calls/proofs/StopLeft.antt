@@ -29,7 +29,7 @@ use Rattle.p2p_log_rules.proofs.Left.{without}
 use Rattle.p2p_log_laws.proofs.Draining.{left-append, drained-append, line_through}
 use Rattle.p2p_net_queues.proofs.Matching.{Match-long}
 use Rattle.p2p_net_queues.specs.Matching.{Match}
-use Rattle.p2p_peer.specs.declared.spawner.message.Message.{Message}
+use Rattle.p2p_lookup.specs.declared.spawner.message.Message.{Message}
 use Rattle.p2p_base.specs.declared.key.Key.{Key}
 use Rattle.p2p_net_connections.specs.SpawnerStands.{SpawnerStands, IsSpawn}
 use Rattle.p2p_net_connections.specs.declared.spawner.Spawning.{Spawning}

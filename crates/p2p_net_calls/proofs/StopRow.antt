@@ -5,8 +5,8 @@ use Rattle.std.specs.List.{AllByRecursion as Each}
 use Rattle.p2p_base.specs.declared.key.Key.{Key}
 use Rattle.p2p_gates.specs.declared.arrival.Arrival.{Arrival}
 use Rattle.p2p_tracker_directory.specs.declared.metadata.Metadata.{Metadata}
-use Rattle.p2p_peer.specs.declared.spawner.message.Message.{Message}
-use Rattle.p2p_peer.specs.declared.spawner.message.Message.TheVariants as asked
+use Rattle.p2p_lookup.specs.declared.spawner.message.Message.{Message}
+use Rattle.p2p_lookup.specs.declared.spawner.message.Message.TheVariants as asked
 use Rattle.p2p_log.specs.declared.config.Config.{Config}
 use Rattle.p2p_log.specs.declared.entry.Entry.{Entry}
 use Rattle.p2p_log.specs.declared.queue.Queue.{Queue}

@@ -8,8 +8,8 @@ use Rattle.p2p_base.specs.declared.key.Key.{Key}
 use Rattle.p2p_router.specs.Messenger.{is_bound}
 use Rattle.p2p_gates.specs.Handshaking.{Handshaking}
 use Rattle.p2p_tracker_mailbox.specs.Mailboxes.{closed_mailbox}
-use Rattle.p2p_peer.specs.declared.spawner.message.Message.{Message}
-use Rattle.p2p_peer.specs.declared.spawner.message.Message.TheVariants as asked
+use Rattle.p2p_lookup.specs.declared.spawner.message.Message.{Message}
+use Rattle.p2p_lookup.specs.declared.spawner.message.Message.TheVariants as asked
 use Rattle.p2p_log.specs.declared.queue.Queue.{Queue}
 use Rattle.p2p_log.specs.declared.queue.Queue.TheVariants as queue
 use Rattle.p2p_log.specs.declared.queue.Side.TheVariants as side

@@ -6,8 +6,8 @@ use Rattle.std.proofs.lemmas.List.{map-append}
 use Rattle.p2p_base.specs.declared.key.Key.{Key}
 use Rattle.p2p_tracker_directory.specs.Reserved.{peer_of}
 use Rattle.p2p_tracker_directory.specs.declared.metadata.Metadata.{Metadata}
-use Rattle.p2p_peer.specs.Spawning.{spawn_of}
-use Rattle.p2p_peer.specs.declared.spawner.message.Message.{Message}
+use Rattle.p2p_lookup.specs.Spawning.{spawn_of}
+use Rattle.p2p_lookup.specs.declared.spawner.message.Message.{Message}
 use Rattle.p2p_log.specs.declared.config.Config.{Config}
 use Rattle.p2p_log.specs.declared.queue.Queue.{Queue}
 use Rattle.p2p_log.specs.declared.queue.Queue.TheVariants as queue

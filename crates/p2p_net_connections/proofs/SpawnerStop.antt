@@ -6,8 +6,8 @@ use Rattle.p2p_base.specs.Queue.{oldest}
 use Rattle.p2p_base.specs.declared.key.Key.{Key}
 use Rattle.p2p_tracker_directory.specs.declared.metadata.Metadata.{Metadata}
 use Rattle.p2p_tracker_directory.specs.declared.metadata.Metadata.TheVariants as metadata
-use Rattle.p2p_peer.specs.declared.spawner.message.Message.{Message}
-use Rattle.p2p_peer.specs.declared.spawner.message.Message.TheVariants as asked
+use Rattle.p2p_lookup.specs.declared.spawner.message.Message.{Message}
+use Rattle.p2p_lookup.specs.declared.spawner.message.Message.TheVariants as asked
 use Rattle.p2p_log.specs.declared.config.Config.{Config}
 use Rattle.p2p_log.specs.declared.queue.Queue.{Queue}
 use Rattle.p2p_log.specs.declared.queue.Queue.TheVariants as queue

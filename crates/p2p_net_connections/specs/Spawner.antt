@@ -7,12 +7,12 @@ use Rattle.p2p_tracker_directory.specs.declared.metadata.Metadata.{Metadata}
 use Rattle.p2p_tracker_mailbox.specs.Mailboxes.{with_message_in}
 use Rattle.p2p_tracker_mailbox.specs.declared.mailbox.Mailbox.{Mailbox}
 use Rattle.p2p_tracker_mailbox.specs.declared.message.Message.TheVariants as message
-use Rattle.p2p_peer.specs.Spawning.{spawn_of}
+use Rattle.p2p_lookup.specs.Spawning.{spawn_of}
 use Rattle.p2p_log.specs.declared.queue.Queue.TheVariants as queue
 use Rattle.p2p_log.specs.declared.item.Item.TheVariants as item
 use Rattle.p2p_log_rules.specs.declared.row.Row.{Row}
-use Rattle.p2p_peer.specs.declared.spawner.message.Message.{Message}
-use Rattle.p2p_peer.specs.declared.spawner.message.Message.TheVariants as asked
+use Rattle.p2p_lookup.specs.declared.spawner.message.Message.{Message}
+use Rattle.p2p_lookup.specs.declared.spawner.message.Message.TheVariants as asked
 use Rattle.p2p_net_connections.specs.declared.spawner.Spawning.{Spawning}
 use Rattle.p2p_net_connections.specs.declared.spawner.Taken.{Taken}
 

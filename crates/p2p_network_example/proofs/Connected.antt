@@ -1,10 +1,10 @@
 -- What a connection leaves of the senders of its node.
 use Rattle.std.proofs.Common.{◌≡◌, ℕ, ◌<◌, length, Option, Some, None, refl, sym, ap, subst}
 use Rattle.p2p_flow_senders.specs.Limits.{Limit, Limits, IsLimitOf, limit_at, with_messenger}
-use Rattle.p2p_peer.specs.Connection.{Connection, desk_of, desk_after}
-use Rattle.p2p_peer.specs.declared.peer.live.Live.{Live}
-use Rattle.p2p_peer.specs.declared.peer.stepped.Stepped.{Stepped}
-use Rattle.p2p_peer.specs.declared.peer.stepped.Stepped.TheVariants as stepped
+use Rattle.p2p_lookup.specs.Connection.{Connection, desk_of, desk_after}
+use Rattle.p2p_lookup.specs.declared.peer.live.Live.{Live}
+use Rattle.p2p_lookup.specs.declared.peer.stepped.Stepped.{Stepped}
+use Rattle.p2p_lookup.specs.declared.peer.stepped.Stepped.TheVariants as stepped
 use Rattle.p2p_router.specs.Messenger.{Desk}
 use Rattle.p2p_network_example.specs.Connecting.{KeepsSenders}
 

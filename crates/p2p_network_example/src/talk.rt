@@ -11,7 +11,7 @@ use crate::wire::Wire;
 use anyhow::Result;
 use p2p_base::Key;
 use p2p_lookup::Running;
-use p2p_peer::peer::Actor;
+use p2p_lookup::peer::Actor;
 use p2p_runtime::MemoryLink;
 use p2p_tracker::Reservation;
 use std::alloc::Global;

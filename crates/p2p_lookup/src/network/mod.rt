@@ -7,7 +7,7 @@ ghost use Rattle.p2p_flow_senders.specs.Registering.{places_of, IsRegisterCause}
 ghost use Rattle.p2p_gates.specs.Dialing.{new_dialer};
 ghost use Rattle.p2p_lookup.specs.Networks.{tracked_by, gated_by, connections_of, no_channels, asked_from, IsNewListener, IsSameNode};
 ghost use Rattle.p2p_lookup.specs.Sizing.{fits};
-ghost use Rattle.p2p_peer.specs.Spawning.{new_spawner};
+ghost use Rattle.p2p_lookup.specs.Spawning.{new_spawner};
 ghost use Rattle.p2p_peer_shared.specs.Opening.{refusal_in, router_places, can_open, opened, received_from, AreInOrder};
 ghost use Rattle.p2p_router.specs.Connections.{IsIndexed};
 ghost use Rattle.p2p_router.specs.Messenger.{new_desk, subscribed};
@@ -18,14 +18,13 @@ ghost use Rattle.p2p_tracker_mailbox.specs.Mailboxes.{new_mailbox};
 
 mod running;
 
-use crate::Config;
+use crate::{Config, spawner};
 use p2p_base::{List, NoRoom, PublicKey};
 use p2p_flow::Channel;
 use p2p_flow_connection::Inbounds;
 use p2p_flow_senders::channels::{Receiver, Sender};
 use p2p_flow_senders::{Channels, RegisterError, Way};
 use p2p_gates::{Config as GatesConfig, Dialer, Listener};
-use p2p_peer::spawner;
 use p2p_peer_shared::network::{self as shared, Fitting};
 use p2p_router::{self as router, Messenger};
 use p2p_runtime::Quota;

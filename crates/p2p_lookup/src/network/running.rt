@@ -1,9 +1,9 @@
 //! `Running`, a node of a network of lookup that has started.
+use crate::spawner;
 use p2p_base::PublicKey;
 use p2p_flow_connection::Inbounds;
 use p2p_flow_senders::Way;
 use p2p_gates::{Dialer, Listener};
-use p2p_peer::spawner;
 use p2p_router::{self as router, Messenger};
 use p2p_tracker as tracker;
 

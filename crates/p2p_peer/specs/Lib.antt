@@ -1,7 +1,0 @@
-pub mod Beginning
-pub mod Connection
-pub mod Lends
-pub mod Ready
-pub mod Receiving
-pub mod Sending
-pub mod Spawning
