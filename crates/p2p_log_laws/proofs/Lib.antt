@@ -83,6 +83,7 @@ pub mod Leads
 pub mod Leaving
 pub mod Ledger
 pub mod LineShape
+pub mod LinkPings
 pub mod Linking
 pub mod Listed
 pub mod ListenerShape
