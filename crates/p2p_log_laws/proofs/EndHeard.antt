@@ -59,7 +59,7 @@ use Rattle.p2p_log_laws.proofs.Shapes.{row_shape}
 use Rattle.p2p_log_laws.proofs.Spreads.{AreFrames, Adds, puts-spread}
 use Rattle.p2p_log_laws.proofs.Weighing.{weight, weighed, taken_items}
 
-abbrev at_router : ℕ → Queue → Bool
+abbrev pub at_router : ℕ → Queue → Bool
 at_router n (queue.Router m) = m == n
 at_router n _ = false
 
@@ -69,21 +69,21 @@ names_ready conn (item.Ready e key) = e == conn
 names_ready conn _ = false
 
 -- whether what is put tells the node's router so, and whether it answers
-abbrev tells_ready : ℕ → ℕ → Queue × Item → Bool
+abbrev pub tells_ready : ℕ → ℕ → Queue × Item → Bool
 tells_ready n conn x = at_router n x.0 && names_ready conn x.1
 
-abbrev at_ready : ℕ → ℕ → Queue → Bool
+abbrev pub at_ready : ℕ → ℕ → Queue → Bool
 at_ready n conn (queue.RouterAnswer m e) = (m == n) && (e == conn)
 at_ready n conn _ = false
 
-abbrev puts_answer : ℕ → ℕ → Queue × Item → Bool
+abbrev pub puts_answer : ℕ → ℕ → Queue × Item → Bool
 puts_answer n conn x = at_ready n conn x.0 && is_answer x.1
 
 module _ (n conn : ℕ) (log : List Entry) where
   -- ---- a router is told once
 
   -- what tells of the connection comes with its beginning, and the first time alone
-  abbrev TellsOnce : Act → Row → Type 0
+  abbrev pub TellsOnce : Act → Row → Type 0
   TellsOnce a r = one (is_begun log n conn) + count_by (tells_ready n conn) r.puts ≤ one (is_begun log n conn || (steps_sender n conn a && is_done r.reply))
 
   silent : (a : Act) (r : Row) → count_by (tells_ready n conn) r.puts ≡ 0 → TellsOnce a r
@@ -200,7 +200,7 @@ module _ (n conn : ℕ) (log : List Entry) where
       by_up true = sender_tells configs at (live_half log n conn) self same
       by_up false = silent (act.SendStep conn n) (only reply.Gone) refl
 
-  each_tells : (configs : List Config) (at seed : ℕ) (a : Act) → Each StandsFit (live log) → TellsOnce a (row configs log at seed a)
+  pub each_tells : (configs : List Config) (at seed : ℕ) (a : Act) → Each StandsFit (live log) → TellsOnce a (row configs log at seed a)
   unfolding row
   each_tells configs at seed a fitting = by (steps_sender n conn a) refl
     where
@@ -295,7 +295,7 @@ module _ (n conn : ℕ) (log : List Entry) where
     router_answers m false = none_answered m (taken log (entry_of ev (only reply.Gone))) (only reply.Gone) tt
 
     -- it stood in its mailbox
-    told_weight : (m : ℕ) (xs : List Envelope) → Each (λ x. x.queue ≡ queue.Router m) xs → count_by (λ i. (m == n) && names_ready conn i) (map (λ x. x.item) xs) ≡ weight (tells_ready n conn) xs
+    pub told_weight : (m : ℕ) (xs : List Envelope) → Each (λ x. x.queue ≡ queue.Router m) xs → count_by (λ i. (m == n) && names_ready conn i) (map (λ x. x.item) xs) ≡ weight (tells_ready n conn) xs
     told_weight m [] there = refl
     told_weight m (x ∷ xs) there =
         sum_by-cons (λ i. one ((m == n) && names_ready conn i)) x.item (map (λ y. y.item) xs)
@@ -305,7 +305,7 @@ module _ (n conn : ℕ) (log : List Entry) where
     abbrev shape : Shape configs log ev.act r
     shape = row_shape configs log ev.at ev.seed ev.act
 
-    abbrev AnswersTold : Type 0
+    abbrev pub AnswersTold : Type 0
     AnswersTold = count_by (puts_answer n conn) r.puts ≤ weight (tells_ready n conn) shape.moves.taken
 
     by_router : (m : ℕ) → ev.act ≡ act.Router m → AnswersTold
@@ -346,7 +346,7 @@ module _ (n conn : ℕ) (log : List Entry) where
     ends_aside None = refl
     ends_aside (Some o) = refl
 
-    answers_told : AnswersTold
+    pub answers_told : AnswersTold
     unfolding row
     answers_told = by ev.act refl
       where
@@ -398,7 +398,7 @@ module _ (n conn : ℕ) (log : List Entry) where
 
 module _ (configs : List Config) (n conn : ℕ) where
   -- what waits, what was answered and whether it runs, together
-  abbrev IsHeardOnce : List Entry → Type 0
+  abbrev pub IsHeardOnce : List Entry → Type 0
   IsHeardOnce log = (weight (tells_ready n conn) (live log) + weight (puts_answer n conn) (live log)) + one (has_run log n conn) ≤ one (is_begun log n conn)
 
   heard_first : IsHeardOnce []
@@ -438,11 +438,11 @@ module _ (configs : List Config) (n conn : ℕ) where
       (one (is_begun before n conn)) (one (is_begun (before ++ e ∷ []) n conn))
       (weighed before ev r m (tells_ready n conn)) (weighed before ev r m (puts_answer n conn)) (answers_told n conn before configs ev) (takes_answer n conn before configs ev told.standing.fitting) runs begins_connection old
 
-  heard_once : (script : List Event) (log : List Entry) → IsLawful configs script log → IsHeardOnce log
+  pub heard_once : (script : List Event) (log : List Entry) → IsLawful configs script log → IsHeardOnce log
   heard_once script log lawful = lawful_at_end configs IsHeardOnce heard_first heard_more script log lawful
 
 -- nothing counted is there
-none_counted : {X : Type 0} (p : X → Bool) (xs : List X) → count_by p xs ≡ 0 → Each (λ x. p x ≡ false) xs
+pub none_counted : {X : Type 0} (p : X → Bool) (xs : List X) → count_by p xs ≡ 0 → Each (λ x. p x ≡ false) xs
 none_counted p [] none = tt
 none_counted p (x ∷ xs) none =
     let first : count_by p (x ∷ xs) ≡ one (p x) + count_by p xs = sum_by-cons (λ y. one (p y)) x xs in

@@ -107,6 +107,8 @@ pub mod Plain
 pub mod Prefixes
 pub mod Puts
 pub mod Reaching
+pub mod ReadyLines
+pub mod ReadyWaits
 pub mod ReceiverShape
 pub mod RegisteredOnce
 pub mod Releasing
@@ -122,6 +124,7 @@ pub mod Showing
 pub mod SpawnerGrants
 pub mod SpawnerShape
 pub mod SpreadDrops
+pub mod Sparing
 pub mod Spreading
 pub mod Spreads
 pub mod Stages

@@ -52,10 +52,10 @@ relay_near false n conn = eq-eqb n n refl
 
 module _ (configs : List Config) (log : List Entry) (n : ℕ) (x : Envelope) (rest : List Envelope) (first : line log (queue.Router n) ≡ x ∷ rest) where
   -- what stands in queues once the item is taken
-  abbrev left : List Envelope
+  abbrev pub left : List Envelope
   left = filter (stays (name_of x ∷ [])) (live log)
 
-  apart : AreApart left
+  pub apart : AreApart left
   apart = AreApart-filter (stays (name_of x ∷ [])) (live log) (AreApart-live_from 0 log)
 
   fit : Each StandsFit (live log) → (i : Item) → x.item ≡ i → fits (queue.Router n) i ≡ true
@@ -67,7 +67,7 @@ module _ (configs : List Config) (log : List Entry) (n : ℕ) (x : Envelope) (re
   in_mailbox = (first_in (reads configs log (act.Router n)) log (queue.Router n) x rest first (same_queue-refl (queue.Router n)), tt)
 
   -- the item, and the lists that newer ones overwrite
-  abbrev ringed : (puts : List (Queue × Item)) (cs : List ℕ) → Moves log (record { reply = reply.Ok; takes = name_of x ∷ []; puts = puts; ends = Effect.peers_ends left n cs })
+  abbrev pub ringed : (puts : List (Queue × Item)) (cs : List ℕ) → Moves log (record { reply = reply.Ok; takes = name_of x ∷ []; puts = puts; ends = Effect.peers_ends left n cs })
   ringed puts cs = record {
     taken = x ∷ [];
     ended = rings left (map (queue.Peers n) cs);
