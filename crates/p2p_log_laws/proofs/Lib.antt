@@ -108,6 +108,7 @@ pub mod Prefixes
 pub mod Puts
 pub mod Reaching
 pub mod ReadyLines
+pub mod ReadyOver
 pub mod ReadyWaits
 pub mod ReceiverShape
 pub mod RegisteredOnce

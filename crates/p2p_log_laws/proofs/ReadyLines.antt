@@ -16,16 +16,14 @@ use Rattle.p2p_log.specs.declared.item.Envelope.{Envelope}
 use Rattle.p2p_log.specs.declared.entry.Entry.{Entry}
 use Rattle.p2p_log.specs.declared.event.Event.{Event}
 use Rattle.p2p_log.specs.QueueCode.{same_queue}
-use Rattle.p2p_log.specs.Lines.{stands_in, live_from, live, line}
+use Rattle.p2p_log.specs.Lines.{stands_in, live, line}
 use Rattle.p2p_log.proofs.Each.{Each-filter}
 use Rattle.p2p_log_rules.specs.declared.row.Row.{Row}
-use Rattle.p2p_log_rules.specs.Connections.{is_answer, runs, ends_connection, is_begun, has_run, is_running, is_ended}
+use Rattle.p2p_log_rules.specs.Connections.{is_answer, runs, ends_connection, is_begun, has_run, is_ended}
 use Rattle.p2p_log_rules.specs.Effect.{effect, entry_of, row}
-use Rattle.p2p_log_rules.specs.Facts.{state_from}
 use Rattle.p2p_log_rules.specs.Lawful.{IsLawful}
 use Rattle.p2p_log_rules.specs.Moves.{Moves}
 use Rattle.p2p_log_rules.specs.Spawning.{Spawned, connections_of}
-use Rattle.p2p_log_rules.specs.Told.{told}
 use Rattle.p2p_log_rules.proofs.Channels.{IsStopOf}
 use Rattle.p2p_log_rules.proofs.Connections.{is_begun-none, has_run-append, is_ended-append}
 use Rattle.p2p_log_rules.proofs.Lawful.{IsLawful-append}
@@ -33,7 +31,7 @@ use Rattle.p2p_log_rules.proofs.Stopping.{live_connection-stopped}
 use Rattle.p2p_log_rules.proofs.Tellings.{or_left, or_right}
 use Rattle.p2p_log_laws.specs.Grants.{one}
 use Rattle.p2p_log_laws.specs.NodeGrants.{put_of}
-use Rattle.p2p_log_laws.proofs.EndHeard.{at_router, names_ready, tells_ready, at_ready, puts_answer, IsHeardOnce, heard_once}
+use Rattle.p2p_log_laws.proofs.EndHeard.{at_router, names_ready, tells_ready, at_ready, puts_answer, heard_once}
 use Rattle.p2p_log_laws.proofs.Fitting.{fits, StandsFit}
 use Rattle.p2p_log_laws.proofs.Ledger.{Told-end}
 use Rattle.p2p_log_laws.proofs.LineShape.{in_line}
@@ -58,10 +56,10 @@ pub record AwaitsRouter (log : List Entry) (n conn : ℕ) : Type 0 where
 -- ---- over all that stands in queues
 
 module _ (configs : List Config) (n conn : ℕ) where
-  abbrev words : List Entry → ℕ
+  abbrev pub words : List Entry → ℕ
   words log = weight (tells_ready n conn) (live log)
 
-  abbrev answers : List Entry → ℕ
+  abbrev pub answers : List Entry → ℕ
   answers log = weight (puts_answer n conn) (live log)
 
   -- one that has begun has ended, or runs, or one of both waits
@@ -205,12 +203,12 @@ none_any f (x ∷ xs) h =
     sum_by-cons (λ y. one (f y)) x xs ∙ (ap (λ b. one b + count_by f xs) (or_left (f x) (list_any f xs) h) ∙ (zero_more (count_by f xs) ∙ none_any f xs (or_right (f x) (list_any f xs) h)))
 
 module _ (configs : List Config) (script : List Event) (log : List Entry) (lawful : IsLawful configs script log) (n conn : ℕ) where
-  words_there : weight (tells_ready n conn) (live log) ≡ words_ready log n conn
+  pub words_there : weight (tells_ready n conn) (live log) ≡ words_ready log n conn
   unfolding line
   words_there =
       counted_there (λ x. tells_ready n conn (put_of x)) (λ x. names_ready conn x.item) (queue.Router n) (λ x. ap (λ b. b && names_ready conn x.item) (at_router-is n x.queue)) (live log)
 
-  answers_there : weight (puts_answer n conn) (live log) ≡ answers_waiting log n conn
+  pub answers_there : weight (puts_answer n conn) (live log) ≡ answers_waiting log n conn
   unfolding line
   answers_there =
       let q : Queue = queue.RouterAnswer n conn in

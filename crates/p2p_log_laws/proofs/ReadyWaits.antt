@@ -1,7 +1,7 @@
 -- What an entry does to the word that a connection is ready, until its router takes it, and then to the router's answer: a connection that
 -- does not run puts the word where it begins, its router answers it, and it runs once it takes the answer.
 use Rattle.std.proofs.Common.{◌≡◌, ℕ, ◌+◌, ◌≤◌, Bool, true, false, cond, List, [], ◌∷◌, ◌++◌, map, Option, Some, None, ◌⊎◌, inl, inr, refl, ap, sym, subst, ◌∙◌, arith, eqb-true}
-use Rattle.std.specs.Prelude.{◌==◌, ◌&&◌, ◌||◌, count_by, filter, flat_map}
+use Rattle.std.specs.Prelude.{◌==◌, ◌&&◌, ◌||◌, count_by, flat_map}
 use Rattle.std.specs.List.{list_any, AllByRecursion as Each}
 use Rattle.std.proofs.lemmas.Bool.{and_parts, false≢true}
 use Rattle.std.proofs.lemmas.List.Sums.{sum_by-cons}
@@ -19,11 +19,11 @@ use Rattle.p2p_log.specs.declared.event.Act.{Act}
 use Rattle.p2p_log.specs.declared.event.Act.TheVariants as act
 use Rattle.p2p_log.specs.declared.event.Event.{Event}
 use Rattle.p2p_log.specs.Drained.{all_end, drained_with}
-use Rattle.p2p_log.specs.Lines.{name_of, ended_item, stays, live, line}
+use Rattle.p2p_log.specs.Lines.{name_of, ended_item, live, line}
 use Rattle.p2p_log.proofs.Each.{Each-always, Each-map}
 use Rattle.p2p_log_rules.specs.declared.row.Half.{Half}
 use Rattle.p2p_log_rules.specs.declared.row.Row.{Row}
-use Rattle.p2p_log_rules.specs.Connections.{is_answer, is_done, begins_connection, runs, is_begun, is_running, is_ended, half_at, live_half}
+use Rattle.p2p_log_rules.specs.Connections.{is_answer, is_done, runs, is_begun, is_running, is_ended, half_at, live_half}
 use Rattle.p2p_log_rules.specs.Dropping.{dialing_end, arriving_end, listening_end}
 use Rattle.p2p_log_rules.specs.Effect
 use Rattle.p2p_log_rules.specs.Effect.{entry_of, row, Spread, spread, row_of_spread, peers_put, mailbox_size_at}

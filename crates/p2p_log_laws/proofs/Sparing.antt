@@ -1,5 +1,5 @@
 -- What leaves a router's mailbox and its answer to a connection alone.
-use Rattle.std.proofs.Common.{◌≡◌, ℕ, Bool, true, false, cond, List, [], ◌∷◌, ◌++◌, map, Option, Some, None, ◌⊎◌, inl, inr, refl, ap, sym, subst, ◌∙◌, arith, eqb-true}
+use Rattle.std.proofs.Common.{◌≡◌, ℕ, Bool, true, false, cond, List, [], ◌∷◌, map, Option, Some, None, ◌⊎◌, inl, inr, refl, ap, sym, subst, ◌∙◌, arith, eqb-true}
 use Rattle.std.specs.Prelude.{◌==◌, ◌&&◌, ◌||◌, nat_lt, flat_map, length}
 use Rattle.std.specs.List.{list_any, AllByRecursion as Each}
 use Rattle.std.proofs.lemmas.Bool.{and_parts, false≢true}
@@ -41,9 +41,8 @@ use Rattle.p2p_log_rules.specs.Rows.{only, takes_oldest}
 use Rattle.p2p_log_rules.specs.Stopping.{emptied_at}
 use Rattle.p2p_log_rules.proofs.Emptied.{each_emptied}
 use Rattle.p2p_log_rules.proofs.Touches.{in_ends, is_told_to}
-use Rattle.p2p_log_rules.proofs.Bools.{and_false}
 use Rattle.p2p_log_laws.specs.NodeGrants.{put_of}
-use Rattle.p2p_log_laws.proofs.EndHeard.{at_router, names_ready, tells_ready, at_ready, puts_answer}
+use Rattle.p2p_log_laws.proofs.EndHeard.{names_ready, tells_ready, puts_answer}
 use Rattle.p2p_log_laws.proofs.Reaching.{in_flight, in_connection}
 use Rattle.p2p_log_laws.proofs.SendShapes.{copies_end_no_item}
 use Rattle.p2p_log_laws.proofs.Weighing.{weight}
@@ -93,6 +92,7 @@ module _ (n conn : ℕ) where
   -- as where no item is ended
   pub spared_all : (log : List Entry) (r : Row) (m : Moves log r) → flat_map ended_item r.ends ≡ [] → Spares log r m
   spared_all log r m none = spared_by log r m (λ q. false) refl refl (subst (Each (λ (x : Envelope). false ≡ true)) (sym (unnamed m.ended (sym m.gone ∙ none))) tt)
+
 -- ---- queues that an act does not reach
 
 pub flip : (m n c conn : ℕ) → ((m == n) && (c == conn)) ≡ false → ((n == m) && (conn == c)) ≡ false
@@ -120,37 +120,40 @@ connection_aside o m c n conn other = ((flight_aside (half_end o) n conn).0, fli
 -- what a stop of another node empties
 pub stop_aside : (log : List Entry) (m n conn : ℕ) → (m == n) ≡ false
     → (list_any (λ p. same_queue p (queue.Router n)) (emptied_at log m) ≡ false) × (list_any (λ p. same_queue p (queue.RouterAnswer n conn)) (emptied_at log m) ≡ false)
-stop_aside log m n conn other = (none (queue.Router n) (emptied_at log m) (each_emptied log m (λ p. same_queue p (queue.Router n) ≡ false) (record {
-  router = ap (λ b. b && true) other;
-  tracker = refl;
-  spawner = refl;
-  arrivals = refl;
-  update = refl;
-  dialer = refl;
-  attempt = λ k. refl;
-  handshake = λ h. refl;
-  high = λ c. refl;
-  low = λ c. refl;
-  held = λ c. refl;
-  control = λ c. refl;
-  ready = λ c. refl;
-  link = λ l s. (links l s).0;
-})), none (queue.RouterAnswer n conn) (emptied_at log m) (each_emptied log m (λ p. same_queue p (queue.RouterAnswer n conn) ≡ false) (record {
-  router = refl;
-  tracker = refl;
-  spawner = refl;
-  arrivals = refl;
-  update = refl;
-  dialer = refl;
-  attempt = λ k. refl;
-  handshake = λ h. refl;
-  high = λ c. refl;
-  low = λ c. refl;
-  held = λ c. refl;
-  control = λ c. refl;
-  ready = λ c. ap (λ b. b && (c == conn)) other;
-  link = λ l s. (links l s).1;
-})))
+stop_aside log m n conn other = (
+  none (queue.Router n) (emptied_at log m) (each_emptied log m (λ p. same_queue p (queue.Router n) ≡ false) (record {
+    router = ap (λ b. b && true) other;
+    tracker = refl;
+    spawner = refl;
+    arrivals = refl;
+    update = refl;
+    dialer = refl;
+    attempt = λ k. refl;
+    handshake = λ h. refl;
+    high = λ c. refl;
+    low = λ c. refl;
+    held = λ c. refl;
+    control = λ c. refl;
+    ready = λ c. refl;
+    link = λ l s. (links l s).0;
+  })),
+  none (queue.RouterAnswer n conn) (emptied_at log m) (each_emptied log m (λ p. same_queue p (queue.RouterAnswer n conn) ≡ false) (record {
+    router = refl;
+    tracker = refl;
+    spawner = refl;
+    arrivals = refl;
+    update = refl;
+    dialer = refl;
+    attempt = λ k. refl;
+    handshake = λ h. refl;
+    high = λ c. refl;
+    low = λ c. refl;
+    held = λ c. refl;
+    control = λ c. refl;
+    ready = λ c. ap (λ b. b && (c == conn)) other;
+    link = λ l s. (links l s).1;
+  })),
+)
   where
     links : (l : ℕ) (s : Side) → (same_queue (queue.Link l s) (queue.Router n) ≡ false) × (same_queue (queue.Link l s) (queue.RouterAnswer n conn) ≡ false)
     links l side.Out = (refl, refl)
