@@ -261,7 +261,7 @@ connections_none n x l row = record {
   left = holders_none n (map (connection_holder n l) x.connections.spawned) x l row;
   rest = refl;
   router = record { number = refl; channels = refl; numbers = refl; taken = refl; routes = refl };
-  connections = record { stages = refl; pings = refl };
+  connections = record { stages = refl };
   ended = λ conn. refl;
   ordered = λ s. s;
 }
@@ -290,7 +290,7 @@ module _ (n : ℕ) (first x y : Node) (before l links : Links) (started row afte
                   ∙ (ap (λ (es : List (ℕ × Unit {0})). record x { router = y.router; connections = y.connections; tracker = record x.tracker { told = y.tracker.told; ended = es } }) (sym noted)
                   ∙ ap (λ (w : Node). record w { router = y.router; connections = y.connections; tracker = record w.tracker { told = y.tracker.told; ended = y.tracker.ended } }) p.rest);
               router = router_kept first.router x.router y.router p.router s.router;
-              connections = record { stages = s.connections.stages ∙ p.connections.stages; pings = s.connections.pings ∙ p.connections.pings };
+              connections = record { stages = s.connections.stages ∙ p.connections.stages };
               ended = λ conn.
                   ap (λ (cs : List (ℕ × Connection)). list_any (λ j. j == conn) (keys_of cs) || is_noted y.tracker.ended conn) s.spawned
                   ∙ (ap (λ b. list_any (λ j. j == conn) (keys_of rest) || b) (ap (λ (es : List (ℕ × Unit {0})). is_noted es conn) noted ∙ noted_more conn k x.tracker.ended)

@@ -129,7 +129,7 @@ module _ (n conn : ℕ) (end : Option LinkEnd) (rest : List (ℕ × Connection))
       taken = keeps.taken ∙ ended.router.taken;
       routes = keeps.routes ∙ ended.router.routes;
     };
-    connections = record { stages = ended.connections.stages; pings = ended.connections.pings };
+    connections = record { stages = ended.connections.stages };
     spawned = ended.spawned;
   }
 

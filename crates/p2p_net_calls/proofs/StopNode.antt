@@ -275,7 +275,6 @@ module _ (configs : List Config) (log : List Entry) (moment seed : ℕ) (by_star
       subst (ConnectionsStand configs after n) (sym connections_same)
       (connections_stopped configs log e n x.connections d.left.connections (s.each place.connections) d.connections_rest.none
       (d.connections_rest.connections.stages ∙ ap (λ (c : Connections). c.stages) were)
-      (d.connections_rest.connections.pings ∙ ap (λ (c : Connections). c.pings) were)
       holds.connections (stops_connections configs log e n stop))
 
   -- ---- its tracker

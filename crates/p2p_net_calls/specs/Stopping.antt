@@ -166,10 +166,9 @@ pub record TrackerKeeps (old new : Tracker) : Type 0 where
   pub questions : new.questions ≡ old.questions
   pub answered : new.answered ≡ old.answered
 
--- of the connections how far they are, and the quota of their pings
+-- of the connections how far they are
 pub record ConnectionsKeep (old new : Connections) : Type 0 where
   pub stages : new.stages ≡ old.stages
-  pub pings : new.pings ≡ old.pings
 
 -- ---- handshakes
 

@@ -22,6 +22,7 @@ use Rattle.p2p_wire.specs.declared.frame.Message.{Message}
 use Rattle.p2p_wire.specs.declared.frame.Message.TheVariants as message
 use Rattle.p2p_wire.specs.Frame.{decode_frame}
 use Rattle.p2p_log_rules.specs.declared.row.Half.{Half}
+use Rattle.p2p_log_rules.specs.Connections.{live_half}
 use Rattle.p2p_log_rules.specs.declared.row.Row.{Row}
 use Rattle.p2p_log_rules.specs.Frames.{data_in, is_ping, message_in, is_ping_in}
 use Rattle.p2p_log_rules.specs.Facts.{events_of, latest_moment, taken, channels, capacity_in}
@@ -102,7 +103,7 @@ admitted_here limit n conn d at what kind log e i held acts lives is took counts
 
 -- ---- the row, by what the node says of the quota
 
-module _ (configs : List Config) (log : List Entry) (n conn at : ℕ) (x : Node) (s : NodeStands configs log n x) (late : latest_moment (events_of log) ≤ at) (half : Half) (f : Envelope) where
+module _ (configs : List Config) (log : List Entry) (n conn at : ℕ) (x : Node) (s : NodeStands configs log n x) (late : latest_moment (events_of log) ≤ at) (half : Half) (has : live_half log n conn ≡ Some half) (f : Envelope) where
   chan : ChannelsStand configs log n x.channels
   chan = s.each place.channels
 
@@ -174,7 +175,7 @@ module _ (configs : List Config) (log : List Entry) (n conn at : ℕ) (x : Node)
   ping_by : (was_held : Bool) → cond (may_pass configs log n conn at pings) (taken_row (name_of f)) (kept_row was_held arriving.Ping) ≡ came_row was_held (Some arriving.Ping)
   ping_by was_held =
       settle was_held (may_pass configs log n conn at pings) arriving.Ping (taken_row (name_of f)) refl
-      ∙ ap (λ b. settled_row was_held (Some b) arriving.Ping) (sym (may_ping_is configs log n conn at x.connections connects late))
+      ∙ ap (λ b. settled_row was_held (Some b) arriving.Ping) (sym (may_ping_is configs log n conn at x.connections half connects has late))
 
   -- what is in flight is a frame
   pub frame_settles : (link : ℕ) (u : Side) (i : Item) → fits (queue.Link link u) i ≡ true → frame_row configs log n conn at half f i ≡ came_row false (arrival_in (limit_at configs n) i)

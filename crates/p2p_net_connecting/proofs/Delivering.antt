@@ -211,7 +211,7 @@ module _ (configs : List Config) (log : List Entry) (at seed conn n : ℕ) (half
   pinged_connections : (due : Row) → is_end due.reply ≡ false → (w : List (ℕ × List Envelope)) → ((d : ℕ) → admitted_by (limit_at configs n) n d pings log (made due) ≡ cond ((d == conn) && may_ping x.connections conn at) (at ∷ []) [])
       → ((c : ℕ) → line (log ++ made due ∷ []) (queue.RouterAnswer n c) ≡ line log (queue.RouterAnswer n c)) → HoldsLines (queue.Held n) (log ++ made due ∷ []) w
       → ConnectionsStand configs (log ++ made due ∷ []) n (record (ping_metered conn at x.connections) { held = w })
-  pinged_connections due lives w admits lines held = connections_metered configs log (made due) n conn at x.connections w connects (spawns_none due lives) (begins_none due) lines late refl admits held
+  pinged_connections due lives w admits lines held = connections_metered configs log (made due) n conn at x.connections connects late refl admits w (spawns_none due lives) (begins_none due) lines held
 
   -- ---- off the link
 
@@ -316,13 +316,13 @@ module _ (configs : List Config) (log : List Entry) (at seed conn n : ℕ) (half
         (links_now due refl refl refl (λ u j. aside (queue.Link j u) (held_link n conn j u)) kept)
 
     -- the row of a step that takes it, which is a frame
-    pub stepped : line log (queue.Held n conn) ≡ [] → StandsFit f → row configs log at seed (act.RecvStep conn n) ≡ came_row configs log n conn at x s late half f false (arrival_in (limit_at configs n) f.item)
+    pub stepped : line log (queue.Held n conn) ≡ [] → StandsFit f → row configs log at seed (act.RecvStep conn n) ≡ came_row configs log n conn at x s late half has f false (arrival_in (limit_at configs n) f.item)
     unfolding row
     stepped none fit =
         stepped_as configs log conn n at (Some half) true up has running
         ∙ (ap (λ w. held_row configs log n conn at half w (line log p)) none
         ∙ (ap (receive_row configs log n conn at half) first
-        ∙ frame_settles configs log n conn at x s late half f half.link (other_side half.writes) f.item (ap (λ q. fits q f.item) (sym (one_taken log p f fs first)) ∙ fit)))
+        ∙ frame_settles configs log n conn at x s late half has f half.link (other_side half.writes) f.item (ap (λ q. fits q f.item) (sym (one_taken log p f fs first)) ∙ fit)))
 
     -- what is refused ends the connection
     abbrev pub Refuses : Type 0
@@ -330,7 +330,7 @@ module _ (configs : List Config) (log : List Entry) (at seed conn n : ℕ) (half
 
     -- by what its quota says
     message_as : (m : Arrived) (o : Option ℕ) (b : Bool) → IsRead (limit_at configs n) f.item (arriving.Message m) → capacity_at x.channels m.channel ≡ o → may_admit x.channels m.channel conn at ≡ b
-        → row configs log at seed (act.RecvStep conn n) ≡ settled_row configs log n conn at x s late half f false (verdict_by o b) (arriving.Message m)
+        → row configs log at seed (act.RecvStep conn n) ≡ settled_row configs log n conn at x s late half has f false (verdict_by o b) (arriving.Message m)
         → Refuses → TakesAs (verdict_by o b) (length log) n conn half (named_as f (arriving.Message m)) (asked_of conn at (arriving.Message m) x) y l links r → Done
     message_as m None b read has says is refuses d =
         refuses ended.InvalidChannel cause.ChannelUnregistered is
@@ -342,12 +342,12 @@ module _ (configs : List Config) (log : List Entry) (at seed conn n : ℕ) (half
         message_held m read says is d.0 (d.1.0 ∙ ap (λ o. held_into (length log) n conn (arriving.Message m) (metered_on o m.channel conn at x)) has) d.1.1
 
     ping_as : (b : Bool) → IsRead (limit_at configs n) f.item arriving.Ping → may_ping x.connections conn at ≡ b
-        → row configs log at seed (act.RecvStep conn n) ≡ settled_row configs log n conn at x s late half f false (Some b) arriving.Ping
+        → row configs log at seed (act.RecvStep conn n) ≡ settled_row configs log n conn at x s late half has f false (Some b) arriving.Ping
         → TakesAs (Some b) (length log) n conn half (named_as f arriving.Ping) (asked_of conn at arriving.Ping x) y l links r → Done
     ping_as true read says is d = ping_off read says is d.0 d.1.0 d.1.1
     ping_as false read says is d = ping_held read says is d.0 d.1.0 d.1.1
 
-    pub off_performs : (o : Option Arriving) → arrival_in (limit_at configs n) f.item ≡ o → row configs log at seed (act.RecvStep conn n) ≡ came_row configs log n conn at x s late half f false o
+    pub off_performs : (o : Option Arriving) → arrival_in (limit_at configs n) f.item ≡ o → row configs log at seed (act.RecvStep conn n) ≡ came_row configs log n conn at x s late half has f false o
         → Refuses → ReadsFrame (option_map (named_as f) o) (length log) n conn at half x y l links r → Done
     off_performs None reads is refuses d = refuses ended.DecodeFailed cause.FrameRefused is d
     off_performs (Some (arriving.Message m)) reads is refuses d =
@@ -446,14 +446,14 @@ module _ (configs : List Config) (log : List Entry) (at seed conn n : ℕ) (half
         refused true shut = ap (λ z. cond z (at ∷ []) []) shut
         refused false shut = refl
 
-    pub retried : row configs log at seed (act.RecvStep conn n) ≡ came_row configs log n conn at x s late half f true (held_arrival f.item)
+    pub retried : row configs log at seed (act.RecvStep conn n) ≡ came_row configs log n conn at x s late half has f true (held_arrival f.item)
     unfolding row
     retried =
         stepped_as configs log conn n at (Some half) true up has running
-        ∙ (ap (λ w. held_row configs log n conn at half w (line log (queue.Link half.link (other_side half.writes)))) first ∙ held_settles configs log n conn at x s late half f f.item)
+        ∙ (ap (λ w. held_row configs log n conn at half w (line log (queue.Link half.link (other_side half.writes)))) first ∙ held_settles configs log n conn at x s late half has f f.item)
 
     message_tried : (m : Arrived) (o : Option ℕ) (b : Bool) → IsRead (limit_at configs n) f.item (arriving.Message m) → capacity_at x.channels m.channel ≡ o → may_admit x.channels m.channel conn at ≡ b
-        → row configs log at seed (act.RecvStep conn n) ≡ settled_row configs log n conn at x s late half f true (verdict_by o b) (arriving.Message m)
+        → row configs log at seed (act.RecvStep conn n) ≡ settled_row configs log n conn at x s late half has f true (verdict_by o b) (arriving.Message m)
         → RetriesAs (verdict_by o b) (length log) n conn at half.peer (named_as f (arriving.Message m)) x y r → Done
     message_tried m None b read has says is d = idle is d.0 (d.1 ∙ ap (λ o. metered_on o m.channel conn at x) has) kept
     message_tried m (Some capacity) true read has says is d =
@@ -463,12 +463,12 @@ module _ (configs : List Config) (log : List Entry) (at seed conn n : ℕ) (half
     message_tried m (Some capacity) false read has says is d = message_stays m says is d.0 (d.1 ∙ ap (λ o. metered_on o m.channel conn at x) has)
 
     ping_tried : (b : Bool) → IsRead (limit_at configs n) f.item arriving.Ping → may_ping x.connections conn at ≡ b
-        → row configs log at seed (act.RecvStep conn n) ≡ settled_row configs log n conn at x s late half f true (Some b) arriving.Ping
+        → row configs log at seed (act.RecvStep conn n) ≡ settled_row configs log n conn at x s late half has f true (Some b) arriving.Ping
         → RetriesAs (Some b) (length log) n conn at half.peer (named_as f arriving.Ping) x y r → Done
     ping_tried true read says is d = ping_freed read says is d.0 d.1
     ping_tried false read says is d = ping_stays says is d.0 d.1
 
-    pub held_performs : (o : Option Arriving) → held_arrival f.item ≡ o → row configs log at seed (act.RecvStep conn n) ≡ came_row configs log n conn at x s late half f true o
+    pub held_performs : (o : Option Arriving) → held_arrival f.item ≡ o → row configs log at seed (act.RecvStep conn n) ≡ came_row configs log n conn at x s late half has f true o
         → RetriesBy (option_map (named_as f) o) (length log) n conn at half.peer x y r → Done
     held_performs None reads is d = idle is d.0 d.1 kept
     held_performs (Some (arriving.Message m)) reads is d =

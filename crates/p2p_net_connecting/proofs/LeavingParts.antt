@@ -116,7 +116,7 @@ module _ {configs : List Config} {log : List Entry} {n conn : ℕ} {half : Half}
     pub connections_now : ConnectionsStand configs (log ++ e ∷ []) n y.connections
     connections_now =
         connections_ended configs log e n conn x.connections y.connections (connects t) (ends_one t at seed sends) one_less
-        (ap (λ (cs : Connections). cs.stages) conns_are) (ap (λ (cs : Connections). cs.pings) conns_are)
+        (ap (λ (cs : Connections). cs.stages) conns_are)
         (subst (HoldsLines (queue.RouterAnswer n) (log ++ e ∷ [])) (sym (ap (λ (cs : Connections). cs.answers) conns_are))
         (cleared_line (queue.RouterAnswer n) x.connections.answers (connects t).waits (ready_gone t at seed sends)
         (λ k other. unmoved t at seed sends (queue.RouterAnswer n k)

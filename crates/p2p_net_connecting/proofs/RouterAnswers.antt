@@ -230,7 +230,8 @@ run_performs configs log at seed conn n half [] x y l links r s t up has begun i
                   running = old.running;
                   pinged = old.pinged;
                   holds = old.holds;
-                  pings = old.pings;
+                  counts = old.counts;
+                  unmade = old.unmade;
                   waits = λ c. waits_none (queue.RouterAnswer n) (same_ready n) log conn x.connections.answers cs.waits (sym (cs.waits conn) ∙ is) c ∙ (sym (cs.waits c) ∙ old.waits c);
                 }),
             (

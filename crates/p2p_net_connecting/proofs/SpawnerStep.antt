@@ -1,5 +1,5 @@
 -- A step of a node's spawner makes a connection of the oldest message of its mailbox.
-use Rattle.std.proofs.Common.{◌≡◌, ℕ, Bool, true, false, cond, List, [], ◌∷◌, ◌++◌, length, refl, ap, sym, subst, ◌∙◌, append-nil, eq-eqb, eqb-true, Some, None}
+use Rattle.std.proofs.Common.{◌≡◌, ℕ, Bool, true, false, cond, List, [], ◌∷◌, ◌++◌, length, refl, ap, sym, subst, ◌∙◌, append-nil, eq-eqb, eqb-true, Some, None, Option}
 use Rattle.std.specs.Prelude.{◌==◌, drop}
 use Rattle.p2p_tracker_directory.specs.Reserved.{peer_of}
 use Rattle.p2p_log.specs.declared.config.Config.{Config}
@@ -18,6 +18,7 @@ use Rattle.p2p_log.proofs.Queues.{same_queue-refl}
 use Rattle.p2p_log_rules.specs.declared.row.Row.{Row}
 use Rattle.p2p_log_rules.specs.Effect.{entry_of, effect, row}
 use Rattle.p2p_log_rules.specs.Facts.{is_up, taken, with_named, with_begun}
+use Rattle.p2p_log_rules.specs.Pings.{ping_frequency_at}
 use Rattle.p2p_log_rules.specs.Rows.{only, takes_oldest, taken_row}
 use Rattle.p2p_log_rules.specs.Spawning.{Spawned, spawned_of, connections_of}
 use Rattle.p2p_log_rules.proofs.Spawning.{connections_of-acted}
@@ -140,10 +141,11 @@ module _ (configs : List Config) (log : List Entry) (moment seed n : ℕ) (x y :
       ∙ ap (λ (items : List Item). with_begun (spawned_of items) (length log) (connections_of log n) conn) (took ∙ ap (λ i. i ∷ []) takes.item))
       ∙ live_named log n conn c fresh)
       in
+      let paced : x.config.ping_frequency ≡ ping_frequency_at configs n = sym (ap (λ (o : Option Config). elim o [ None ↦ 0 | Some k ↦ k.ping_frequency ]) s.own.config) in
       performs due is (d.0 ∙ ap taken_row takes.name) (subst (λ z. z ≡ with_parts both x z) (sym d.1) refl)
       (subst (SpawnerStands configs (log ++ e due ∷ []) n) (sym (ap (λ (z : Node). z.spawning) d.1)) (spawner_less configs log (e due) n x.spawning spawns left))
       (subst (ConnectionsStand configs (log ++ e due ∷ []) n) (sym (ap (λ (z : Node). z.connections) d.1))
-      (connections_spawned configs log (e due) n w.link w.reservation x.connections connects made takes.side (begins_unsent log (e due) n a refl (λ conn. refl))
+      (connections_spawned configs log (e due) n w.link x.config.ping_frequency w.reservation x.connections connects paced made takes.side (begins_unsent log (e due) n a refl (λ conn. refl))
       (receives_apart configs log (e due) n a refl (λ conn. refl) (λ conn. line-taken log (e due) q z zs (queue.Held n conn) first refl ∙ append-nil (line log (queue.Held n conn))))
       (λ conn. line-taken log (e due) q z zs (queue.RouterAnswer n conn) first refl ∙ append-nil (line log (queue.RouterAnswer n conn)))))
 

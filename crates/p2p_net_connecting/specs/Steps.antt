@@ -39,7 +39,7 @@ abbrev pub SpawnsBy : Option Taken → ℕ → Node → Node → Row → Type 0
 SpawnsBy None k old new r = (r ≡ only reply.Idle) × (new ≡ record old { spawning = without_first old.spawning })
 SpawnsBy (Some t) k old new r =
     (r ≡ taken_row t.name)
-    × (new ≡ record old { spawning = without_first old.spawning; connections = spawned_with k t.link t.reservation old.connections })
+    × (new ≡ record old { spawning = without_first old.spawning; connections = spawned_with k t.link t.reservation old.config.ping_frequency old.connections })
 
 abbrev pub SpawnerStepsBy : Bool → ℕ → Node → Node → Row → Type 0
 SpawnerStepsBy false k old new r = Stays old new r (only reply.Gone)

@@ -69,7 +69,7 @@ fn admit(
     ensures failed { OnOk result (node.new.failed ≡ node.old.failed) }
 {
     match arriving {
-        Arriving::Ping => Ok(Some(node.connections.admit_ping(conn, at)?)),
+        Arriving::Ping => Ok(Some(node.connections.admit_ping(conn, at))),
         Arriving::Message(arrived) => {
             if !node.channels.inbounds.is_registered(arrived.channel) {
                 return Ok(None);

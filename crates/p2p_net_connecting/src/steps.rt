@@ -56,7 +56,8 @@ pub fn spawn_step(node: &mut Node, turn: Turn) -> Result<Row, AllocError>
     else {
         return Ok(only(turn.alloc, Reply::Idle));
     };
-    node.connections.spawn(turn, link, reservation)?;
+    let often = node.config.ping_frequency;
+    node.connections.spawn(turn, link, reservation, often)?;
     let row = taking(turn.alloc, name)?;
     Ok(row)
 }

@@ -22,7 +22,7 @@ use Rattle.p2p_net_connections.specs.declared.connections.Connections.{Connectio
 use Rattle.p2p_net_connections.specs.declared.connections.Stage.{Stage}
 use Rattle.p2p_net_connections.specs.declared.connections.Stage.TheVariants as stage
 use Rattle.p2p_net_connections.proofs.Dialing.{connected_by-longer}
-use Rattle.p2p_net_connections.proofs.Changes.{or-false, running-kept, holds_kept, pings_kept}
+use Rattle.p2p_net_connections.proofs.Changes.{or-false, running-kept, holds_kept, pings_kept, unmade_kept}
 use Rattle.p2p_net_connections.proofs.Pings.{pinged-kept, last_pinged-first, pinged-idle, pinged-early, pinged-due, idle_stage, not_pinged, not_running, due_runs}
 
 some_cond : (b : Bool) (s : Stage) (o : Option Stage) → is_some (cond b (Some s) o) ≡ (is_some o || b)
@@ -72,7 +72,8 @@ connections_begun configs log e n conn cs s pinging spawns idle starts none rece
       ∙ (s.pinged c ∙ sym (still_pinged c (c == conn) refl)));
   waits = λ c. s.waits c ∙ sym (lines c);
   holds = holds_kept configs log e n cs s receives;
-  pings = pings_kept configs log e n cs s receives.no_ping;
+  counts = pings_kept configs log e n cs s receives.no_ping;
+  unmade = unmade_kept configs log e n cs s receives.no_ping;
 }
   where
     idle_there : (c : ℕ) → (c == conn) ≡ true → has_run log n c ≡ false
@@ -104,7 +105,8 @@ connections_ran configs log e n conn now cs answers s pinging spawns begun idle 
       ∙ (counted_cond (c == conn) now (at cs.stages c) ∙ (ap (λ o. cond (c == conn) (Some now) o) (s.pinged c) ∙ sym (counts c (c == conn) refl)));
   waits = waits;
   holds = holds_kept configs log e n cs s receives;
-  pings = pings_kept configs log e n cs s receives.no_ping;
+  counts = pings_kept configs log e n cs s receives.no_ping;
+  unmade = unmade_kept configs log e n cs s receives.no_ping;
 }
   where
     counts : (c : ℕ) (b : Bool) → (c == conn) ≡ b → last_pinged configs (log ++ e ∷ []) n c ≡ cond b (Some now) (last_pinged configs log n c)
@@ -127,7 +129,8 @@ connections_stepped configs log e n conn cs answers s pinging spawns begun other
   pinged = λ c. s.pinged c ∙ sym (still_pinged c (c == conn) refl);
   waits = waits;
   holds = holds_kept configs log e n cs s receives;
-  pings = pings_kept configs log e n cs s receives.no_ping;
+  counts = pings_kept configs log e n cs s receives.no_ping;
+  unmade = unmade_kept configs log e n cs s receives.no_ping;
 }
   where
     still_begun : (c : ℕ) (b : Bool) → (c == conn) ≡ b → is_begun (log ++ e ∷ []) n c ≡ is_begun log n c
@@ -170,7 +173,8 @@ connections_pinged configs log e n conn now cs s pinging spawns steps same due i
       ∙ (counted_cond (c == conn) now (at cs.stages c) ∙ (ap (λ o. cond (c == conn) (Some now) o) (s.pinged c) ∙ sym (counts c (c == conn) refl)));
   waits = waits;
   holds = holds_kept configs log e n cs s receives;
-  pings = pings_kept configs log e n cs s receives.no_ping;
+  counts = pings_kept configs log e n cs s receives.no_ping;
+  unmade = unmade_kept configs log e n cs s receives.no_ping;
 }
   where
     still_runs : (c : ℕ) (b : Bool) → (c == conn) ≡ b → (has_run log n c || b) ≡ has_run log n c

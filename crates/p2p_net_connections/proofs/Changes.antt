@@ -1,5 +1,5 @@
 -- The connections of a node after one more entry.
-use Rattle.std.proofs.Common.{◌≡◌, ℕ, ◌+◌, Bool, true, false, cond, List, [], ◌∷◌, ◌++◌, refl, ap, sym, ◌∙◌, arith, append_assoc, append-nil}
+use Rattle.std.proofs.Common.{◌≡◌, ℕ, ◌+◌, ◌≤◌, Bool, true, false, cond, List, [], ◌∷◌, ◌++◌, length, refl, ap, sym, ◌∙◌, arith, append_assoc, append-nil}
 use Rattle.std.specs.Prelude.{filter, ◌==◌, ◌&&◌, ◌||◌}
 use Rattle.std.specs.List.{list_any}
 use Rattle.std.specs.BTreeMap.{is_at}
@@ -16,21 +16,20 @@ use Rattle.p2p_log.specs.Lines.{stands_in, placed}
 use Rattle.p2p_log_rules.specs.Told.{told}
 use Rattle.p2p_log_rules.specs.Connections.{begins_connection, is_begun, is_answer, has_run, runs, is_ended}
 use Rattle.p2p_log_rules.specs.Facts.{history_from, state_from, taken}
-use Rattle.p2p_log_rules.specs.Metering.{pings, ping_quota, limit_at, admitted_by, admitted}
-use Rattle.p2p_log_rules.specs.Pings.{ping_frequency_at, last_pinged}
+use Rattle.p2p_log_rules.specs.Metering.{pings, limit_at, admitted_by, admitted}
+use Rattle.p2p_log_rules.specs.Pings.{last_pinged}
 use Rattle.p2p_log_rules.specs.Spawning.{connections_of}
 use Rattle.p2p_log_rules.proofs.Connections.{is_begun-append, runs_is, has_run-append}
-use Rattle.p2p_runtime.specs.QuotaStep.{IsQuota}
 use Rattle.p2p_net_queues.specs.Tables.{at, waiting, pushed_at}
 use Rattle.p2p_net_queues.specs.Lines.{HoldsLines}
-use Rattle.p2p_net_queues.specs.Meters.{Meters}
 use Rattle.p2p_net_queues.proofs.Holding.{holds_none, holds_frame, longer}
-use Rattle.p2p_net_queues.proofs.Meters.{admitted-kept, meters_new, meters_frame}
 use Rattle.p2p_net_queues.proofs.Tables.{waiting-pushed_at}
 use Rattle.p2p_net_connections.specs.Connections.{no_connections, is_answer_to, answered_in, answered_by, answered}
+use Rattle.p2p_net_connections.specs.Pinging.{CountsPingsOf}
 use Rattle.p2p_net_connections.specs.Stands.{ConnectionsStand, SpawnsNone, BeginsNone, ReceivesNone, LeavesConnections}
 use Rattle.p2p_net_connections.specs.declared.connections.Connections.{Connections}
 use Rattle.p2p_net_connections.proofs.Dialing.{connected_by-longer}
+use Rattle.p2p_net_connections.proofs.PingCounts.{counts_frame, unmade_frame}
 use Rattle.p2p_net_connections.proofs.Pings.{pinged-kept}
 
 pub or-false : (b c : Bool) → c ≡ false → (b || c) ≡ b
@@ -58,21 +57,17 @@ pub holds_kept : (configs : List Config) (log : List Entry) (e : Entry) (n : ℕ
 holds_kept configs log e n cs s none = holds_frame (queue.Held n) log e cs.held s.holds none.held
 
 -- and no ping is admitted
-pub pings_kept :
-    (configs : List Config) (log : List Entry) (e : Entry) (n : ℕ) (cs : Connections) → ConnectionsStand configs log n cs → ((conn : ℕ) → admitted_by (limit_at configs n) n conn pings log e ≡ [])
-    → Meters nat_cmp (log ++ e ∷ []) (ping_quota (ping_frequency_at configs n)) (λ conn. admitted configs (log ++ e ∷ []) n conn pings) cs.pings
-pings_kept configs log e n cs s none =
-    meters_frame nat_cmp log e (ping_quota (ping_frequency_at configs n)) (λ conn. admitted configs log n conn pings) (λ conn. admitted configs (log ++ e ∷ []) n conn pings) cs.pings s.pings
-    (λ conn. admitted-kept configs log e n conn pings (none conn))
+module _ (configs : List Config) (log : List Entry) (e : Entry) (n : ℕ) (cs : Connections) (s : ConnectionsStand configs log n cs) (none : (conn : ℕ) → admitted_by (limit_at configs n) n conn pings log e ≡ []) where
+  pub pings_kept : (conn : ℕ) → CountsPingsOf configs (log ++ e ∷ []) n conn (at cs.spawned conn)
+  pings_kept conn = counts_frame configs log n conn e (at cs.spawned conn) (s.counts conn) (none conn)
+
+  pub unmade_kept : (conn : ℕ) → length (log ++ e ∷ []) ≤ conn → admitted configs (log ++ e ∷ []) n conn pings ≡ []
+  unmade_kept conn = unmade_frame configs log n conn e (s.unmade conn) (none conn)
 
 -- ---- all of them
 
--- the quota of pings is one
-is_ping_quota : (frequency : ℕ) → IsQuota (ping_quota frequency)
-is_ping_quota frequency = record { some_burst = omega arith; some_period = omega arith }
-
 -- no connections stand for no log
-pub connections_new : (configs : List Config) (n : ℕ) → ConnectionsStand configs [] n (no_connections (ping_frequency_at configs n))
+pub connections_new : (configs : List Config) (n : ℕ) → ConnectionsStand configs [] n no_connections
 unfolding is_begun has_run is_ended last_pinged admitted history_from state_from told connections_of
 connections_new configs n = record {
   spawned = λ conn. refl;
@@ -82,7 +77,8 @@ connections_new configs n = record {
   pinged = λ conn. refl;
   waits = holds_none (queue.RouterAnswer n);
   holds = holds_none (queue.Held n);
-  pings = meters_new nat_cmp [] (ping_quota (ping_frequency_at configs n)) (λ conn. admitted configs [] n conn pings) (is_ping_quota (ping_frequency_at configs n)) (λ conn. refl);
+  counts = λ conn. tt;
+  unmade = λ conn late. refl;
 }
 
 -- none begins, and these answers wait
@@ -97,7 +93,8 @@ connections_answered configs log e n cs answers s spawns none receives waits = r
   pinged = λ conn. s.pinged conn ∙ sym (pinged-kept configs log e n conn (none conn));
   waits = waits;
   holds = holds_kept configs log e n cs s receives;
-  pings = pings_kept configs log e n cs s receives.no_ping;
+  counts = pings_kept configs log e n cs s receives.no_ping;
+  unmade = unmade_kept configs log e n cs s receives.no_ping;
 }
 
 -- an entry that leaves them alone

@@ -1,25 +1,24 @@
 -- The connections of a node after an entry that ends some of them.
 use Rattle.std.proofs.Common.{◌≡◌, ℕ, Bool, true, false, cond, List, [], ◌∷◌, ◌++◌, refl, ap, sym, subst, ◌∙◌, Option, None}
 use Rattle.std.specs.Prelude.{◌==◌, ◌||◌, is_some}
-use Rattle.std.specs.Ordering.{nat_cmp}
 use Rattle.p2p_log.specs.declared.config.Config.{Config}
 use Rattle.p2p_log.specs.declared.queue.Queue.TheVariants as queue
 use Rattle.p2p_log.specs.declared.entry.Entry.{Entry}
 use Rattle.p2p_log_rules.specs.Connections.{begins_connection, ends_connection, is_ended, live_connection}
-use Rattle.p2p_log_rules.specs.Metering.{pings, ping_quota, limit_at, admitted_by, admitted}
-use Rattle.p2p_log_rules.specs.Pings.{ping_frequency_at}
+use Rattle.p2p_log_rules.specs.Metering.{pings, limit_at, admitted_by}
 use Rattle.p2p_log_rules.specs.Spawning.{Spawned, connections_of}
 use Rattle.p2p_log_rules.proofs.Connections.{is_ended-append}
 use Rattle.p2p_net_queues.specs.Lines.{HoldsLines}
-use Rattle.p2p_net_queues.specs.Meters.{Meters}
 use Rattle.p2p_net_queues.specs.Tables.{AreBut, at}
 use Rattle.p2p_net_connections.specs.Connections.{runs_on, pinged_on, spawned_on}
 use Rattle.p2p_net_connections.specs.Dialing.{IsConnectedBy}
+use Rattle.p2p_net_connections.specs.Pinging.{CountsPingsOf}
 use Rattle.p2p_net_connections.specs.Stands.{ConnectionsStand}
 use Rattle.p2p_net_connections.specs.declared.connections.Connection.{Connection}
 use Rattle.p2p_net_connections.specs.declared.connections.Connections.{Connections}
-use Rattle.p2p_net_connections.proofs.Changes.{begun-kept, idle-kept, pings_kept}
+use Rattle.p2p_net_connections.proofs.Changes.{begun-kept, idle-kept, pings_kept, unmade_kept}
 use Rattle.p2p_net_connections.proofs.Dialing.{connected_by-longer, connected_by-cond}
+use Rattle.p2p_net_connections.proofs.PingCounts.{counts_cond}
 use Rattle.p2p_net_connections.proofs.Pings.{pinged-kept}
 
 -- an entry that ends those connections of which this is so, and no other; none is made or begins, and none admits a ping
@@ -52,10 +51,10 @@ spawned_but false o = refl
 
 -- without them, and with what waits then, they stand for the log
 pub connections_over : (configs : List Config) (log : List Entry) (e : Entry) (n : ℕ) (over : ℕ → Bool) (cs new : Connections) → ConnectionsStand configs log n cs → EndsThose configs log e n over
-    → ((k : ℕ) → at new.spawned k ≡ cond (over k) None (at cs.spawned k)) → new.stages ≡ cs.stages → new.pings ≡ cs.pings
+    → ((k : ℕ) → at new.spawned k ≡ cond (over k) None (at cs.spawned k)) → new.stages ≡ cs.stages
     → HoldsLines (queue.RouterAnswer n) (log ++ e ∷ []) new.answers → HoldsLines (queue.Held n) (log ++ e ∷ []) new.held
     → ConnectionsStand configs (log ++ e ∷ []) n new
-connections_over configs log e n over cs new s those left stages quota waits holds = record {
+connections_over configs log e n over cs new s those left stages waits holds = record {
   spawned = λ k.
       ap spawned_on (left k)
       ∙ (spawned_but (over k) (at cs.spawned k)
@@ -68,12 +67,15 @@ connections_over configs log e n over cs new s those left stages quota waits hol
   pinged = λ k. ap (λ st. pinged_on (at st k)) stages ∙ (s.pinged k ∙ sym (pinged-kept configs log e n k (those.no_begin k)));
   waits = waits;
   holds = holds;
-  pings = subst (Meters nat_cmp (log ++ e ∷ []) (ping_quota (ping_frequency_at configs n)) (λ k. admitted configs (log ++ e ∷ []) n k pings)) (sym quota) (pings_kept configs log e n cs s those.no_ping);
+  counts = λ k.
+      subst (CountsPingsOf configs (log ++ e ∷ []) n k) (sym (left k))
+      (counts_cond configs (log ++ e ∷ []) n k (over k) None (at cs.spawned k) (λ h. tt) (pings_kept configs log e n cs s those.no_ping k));
+  unmade = unmade_kept configs log e n cs s those.no_ping;
 }
 
 -- without one
 pub connections_ended : (configs : List Config) (log : List Entry) (e : Entry) (n conn : ℕ) (cs new : Connections) → ConnectionsStand configs log n cs → EndsOne configs log e n conn
-    → AreBut conn None cs.spawned new.spawned → new.stages ≡ cs.stages → new.pings ≡ cs.pings
+    → AreBut conn None cs.spawned new.spawned → new.stages ≡ cs.stages
     → HoldsLines (queue.RouterAnswer n) (log ++ e ∷ []) new.answers → HoldsLines (queue.Held n) (log ++ e ∷ []) new.held
     → ConnectionsStand configs (log ++ e ∷ []) n new
 connections_ended configs log e n conn = connections_over configs log e n (λ k. k == conn)

@@ -1,8 +1,10 @@
+pub mod AskedPing
 pub mod Beginning
 pub mod Changes
 pub mod Dialing
 pub mod Ended
 pub mod Listed
+pub mod PingCounts
 pub mod Pings
 pub mod Receiving
 pub mod SpawnerChanges

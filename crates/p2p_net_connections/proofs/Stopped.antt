@@ -1,5 +1,5 @@
 -- The connections of a node and its spawner's mailbox while the node stops, and once it has.
-use Rattle.std.proofs.Common.{◌≡◌, ℕ, Bool, true, false, cond, List, [], ◌∷◌, ◌++◌, map, refl, ap, sym, subst, ◌∙◌, None}
+use Rattle.std.proofs.Common.{◌≡◌, ℕ, ◌+◌, Bool, true, false, cond, List, [], ◌∷◌, ◌++◌, map, length, refl, ap, sym, subst, ◌∙◌, arith, length-append, None}
 use Rattle.std.specs.Prelude.{◌&&◌, not, filter, is_some}
 use Rattle.std.specs.BTreeMap.{is_at}
 use Rattle.std.specs.Ordering.{nat_cmp}
@@ -16,19 +16,19 @@ use Rattle.p2p_log.proofs.QueueNames.{queue_from_same}
 use Rattle.p2p_log.proofs.Queues.{same_queue-sym}
 use Rattle.p2p_log_rules.specs.Connections.{begins_connection, is_begun, has_run, live_connection, is_end}
 use Rattle.p2p_log_rules.specs.Facts.{taken}
-use Rattle.p2p_log_rules.specs.Metering.{pings, ping_quota, limit_at, admitted_by, admitted}
-use Rattle.p2p_log_rules.specs.Pings.{ping_frequency_at, last_pinged}
+use Rattle.p2p_log_rules.specs.Metering.{pings, limit_at, admitted_by, admitted}
+use Rattle.p2p_log_rules.specs.Pings.{last_pinged}
 use Rattle.p2p_log_rules.proofs.Channels.{IsStopOf}
 use Rattle.p2p_log_rules.proofs.Connections.{steps_receiver, begins_act}
 use Rattle.p2p_log_rules.proofs.Left.{without, line_gone, line_kept}
 use Rattle.p2p_log_rules.proofs.Metering.{admits_one, admitted_is}
 use Rattle.p2p_log_rules.proofs.Stopping.{live_connection-stopped}
-use Rattle.p2p_net_queues.specs.Meters.{Meters}
 use Rattle.p2p_net_queues.specs.Tables.{at, waiting, cleared_at}
-use Rattle.p2p_net_queues.proofs.Meters.{admitted-kept, meters_frame}
+use Rattle.p2p_net_queues.proofs.Meters.{admitted-kept}
 use Rattle.p2p_net_queues.proofs.Tables.{waiting-cleared_at}
 use Rattle.p2p_net_connections.specs.Connections.{runs_on, pinged_on, spawned_on}
 use Rattle.p2p_net_connections.specs.Dialing.{IsConnectedBy}
+use Rattle.p2p_net_connections.specs.Pinging.{CountsPingsOf}
 use Rattle.p2p_net_connections.specs.Stands.{ConnectionsStand}
 use Rattle.p2p_net_connections.specs.Stopping.{ConnectionsLeft}
 use Rattle.p2p_net_connections.specs.declared.connections.Connection.{Connection}
@@ -122,10 +122,10 @@ stops_connections configs log e n stop = record {
         admitted_is (limit_at configs n) n conn pings log e
         ∙ ap (λ a. cond (steps_receiver n conn a && not (is_end e.reply) && admits_one (limit_at configs n) pings (taken log e) e.puts) (e.event.at ∷ []) []) stop.acts
 
-pub connections_stopped : (configs : List Config) (log : List Entry) (e : Entry) (n : ℕ) (cs new : Connections) → ConnectionsStand configs log n cs → new.spawned ≡ [] → new.stages ≡ cs.stages → new.pings ≡ cs.pings
+pub connections_stopped : (configs : List Config) (log : List Entry) (e : Entry) (n : ℕ) (cs new : Connections) → ConnectionsStand configs log n cs → new.spawned ≡ [] → new.stages ≡ cs.stages
     → ConnectionsLeft n new (live (log ++ e ∷ [])) → StopsConnections configs log e n → ConnectionsStand configs (log ++ e ∷ []) n new
 unfolding line
-connections_stopped configs log e n cs new s none stages quota left stops = record {
+connections_stopped configs log e n cs new s none stages left stops = record {
   spawned = λ conn. ap (λ (m : List (ℕ × Connection)). spawned_on (at m conn)) none ∙ sym (stops.gone conn);
   reserved = λ conn. subst (λ (m : List (ℕ × Connection)). IsConnectedBy (log ++ e ∷ []) n (at m conn)) (sym none) tt;
   begun = λ conn. ap (λ (m : List (ℕ × Stage)). is_some (at m conn)) stages ∙ (s.begun conn ∙ sym (stops.begun conn));
@@ -133,6 +133,6 @@ connections_stopped configs log e n cs new s none stages quota left stops = reco
   pinged = λ conn. ap (λ (m : List (ℕ × Stage)). pinged_on (at m conn)) stages ∙ (s.pinged conn ∙ sym (stops.pinged conn));
   waits = left.answers;
   holds = left.held;
-  pings = subst (Meters nat_cmp (log ++ e ∷ []) (ping_quota (ping_frequency_at configs n)) (λ conn. admitted configs (log ++ e ∷ []) n conn pings)) (sym quota)
-      (meters_frame nat_cmp log e (ping_quota (ping_frequency_at configs n)) (λ conn. admitted configs log n conn pings) (λ conn. admitted configs (log ++ e ∷ []) n conn pings) cs.pings s.pings stops.admits);
+  counts = λ conn. subst (λ (m : List (ℕ × Connection)). CountsPingsOf configs (log ++ e ∷ []) n conn (at m conn)) (sym none) tt;
+  unmade = λ conn late. stops.admits conn ∙ s.unmade conn (let more : length (log ++ e ∷ []) ≡ length log + 1 = length-append log (e ∷ []) in omega arith);
 }

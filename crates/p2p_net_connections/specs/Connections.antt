@@ -1,6 +1,7 @@
 -- The connections of a node as values: what each call makes of them.
-use Rattle.std.specs.Prelude.{ℕ, ◌+◌, Bool, true, false, cond, List, [], ◌∷◌, Option, Some, None, slice_get}
-use Rattle.std.specs.BTreeMap.{insert_entry}
+use Rattle.std.specs.Prelude.{ℕ, ◌+◌, Bool, true, false, cond, List, [], ◌∷◌, Option, Some, None, slice_get, is_ok}
+use Rattle.std.specs.BTreeMap.{is_at, insert_entry}
+use Rattle.std.specs.Map.{set_value}
 use Rattle.std.specs.Ordering.{nat_cmp}
 use Rattle.p2p_base.specs.declared.key.Key.{Key}
 use Rattle.p2p_tracker_directory.specs.Reserved.{peer_of}
@@ -12,17 +13,18 @@ use Rattle.p2p_log.specs.declared.item.Item.{Item}
 use Rattle.p2p_log.specs.declared.item.Envelope.{Envelope}
 use Rattle.p2p_log_rules.specs.Connections.{is_answer}
 use Rattle.p2p_log_rules.specs.Spawning.{Spawned}
-use Rattle.p2p_log_rules.specs.Metering.{ping_quota}
-use Rattle.p2p_net_queues.specs.Meters.{fresh, passes, checked}
-use Rattle.p2p_net_queues.specs.Tables.{waiting, pushed_at, popped_at}
+use Rattle.p2p_peer_shared.specs.Beginning.{half_rate}
+use Rattle.p2p_runtime.specs.QuotaCheck.{rate_answer, after_rate}
+use Rattle.p2p_runtime.specs.QuotaKept.{Kept}
+use Rattle.p2p_runtime.specs.QuotaLaw.{Rate}
+use Rattle.p2p_net_queues.specs.Tables.{at, waiting, pushed_at, popped_at}
 use Rattle.p2p_net_connections.specs.declared.connections.Connection.{Connection}
 use Rattle.p2p_net_connections.specs.declared.connections.Connections.{Connections}
 use Rattle.p2p_net_connections.specs.declared.connections.Stage.{Stage}
 use Rattle.p2p_net_connections.specs.declared.connections.Stage.TheVariants as stage
 
--- no connections, of a node that pings so often
-abbrev pub no_connections : ℕ → Connections
-no_connections frequency = record { spawned = []; stages = []; answers = []; held = []; pings = fresh (ping_quota frequency) }
+abbrev pub no_connections : Connections
+no_connections = record { spawned = []; stages = []; answers = []; held = [] }
 
 -- whether a connection at this stage runs
 abbrev pub runs_on : Option Stage → Bool
@@ -39,8 +41,16 @@ abbrev pub spawned_on : Option Connection → Option Spawned
 spawned_on None = None
 spawned_on (Some c) = Some (record { key = peer_of c.reservation; link = c.link })
 
-abbrev pub spawned_with : ℕ → ℕ → Metadata Key → Connections → Connections
-spawned_with conn link reservation cs = record cs { spawned = insert_entry nat_cmp cs.spawned conn (record { link = link; reservation = reservation }) }
+-- what is kept of a quota that has admitted nothing
+abbrev pub fresh : Rate → Kept
+fresh quota = record { rate = quota; arrival = 0; latest = 0 }
+
+-- a connection that was just made, of a node that pings so often
+abbrev pub new_connection : ℕ → Metadata Key → ℕ → Connection
+new_connection link reservation frequency = record { link = link; reservation = reservation; pings = fresh (half_rate frequency) }
+
+abbrev pub spawned_with : ℕ → ℕ → Metadata Key → ℕ → Connections → Connections
+spawned_with conn link reservation frequency cs = record cs { spawned = insert_entry nat_cmp cs.spawned conn (new_connection link reservation frequency) }
 
 -- whether a queue is of the answers to a connection of the node
 abbrev pub is_answer_to : ℕ → Queue → Bool
@@ -93,10 +103,23 @@ held_with entry place n conn i cs =
 abbrev pub without_held : ℕ → Connections → Connections
 without_held conn cs = record cs { held = popped_at cs.held conn }
 
--- whether the quota of pings admits one more of a connection at a moment
+-- ---- the quota of the pings of a connection
+
+abbrev pub ping_passes : Option Connection → ℕ → Bool
+ping_passes None now = false
+ping_passes (Some c) now = is_ok (rate_answer c.pings now)
+
+-- whether a connection admits one more ping at a moment
 abbrev pub may_ping : Connections → ℕ → ℕ → Bool
-may_ping cs conn now = passes nat_cmp cs.pings conn now
+may_ping cs conn now = ping_passes (at cs.spawned conn) now
+
+abbrev pub metered : ℕ → Connection → Connection
+metered now c = record c { pings = after_rate c.pings now }
+
+abbrev pub metered_on : Option Connection → ℕ → ℕ → List (ℕ × Connection) → List (ℕ × Connection)
+metered_on None conn now m = m
+metered_on (Some c) conn now m = set_value (is_at (nat_cmp conn)) m (metered now c)
 
 -- the connections once that was asked
 abbrev pub ping_metered : ℕ → ℕ → Connections → Connections
-ping_metered conn now cs = record cs { pings = checked nat_cmp cs.pings conn now }
+ping_metered conn now cs = record cs { spawned = metered_on (at cs.spawned conn) conn now cs.spawned }

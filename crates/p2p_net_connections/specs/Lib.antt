@@ -1,5 +1,6 @@
 pub mod Connections
 pub mod Dialing
+pub mod Pinging
 pub mod Spawner
 pub mod SpawnerStands
 pub mod Stands

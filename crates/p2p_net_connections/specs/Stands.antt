@@ -1,18 +1,17 @@
 -- When the connections of a node stand for a log.
-use Rattle.std.specs.Prelude.{◌≡◌, ℕ, false, List, [], ◌∷◌, ◌++◌, is_some}
-use Rattle.std.specs.Ordering.{nat_cmp}
+use Rattle.std.specs.Prelude.{◌≡◌, ◌≤◌, ℕ, false, List, [], ◌∷◌, ◌++◌, length, is_some}
 use Rattle.p2p_log.specs.declared.config.Config.{Config}
 use Rattle.p2p_log.specs.declared.queue.Queue.TheVariants as queue
 use Rattle.p2p_log.specs.declared.entry.Entry.{Entry}
 use Rattle.p2p_log.specs.Lines.{line}
 use Rattle.p2p_log_rules.specs.Connections.{begins_connection, is_begun, has_run, live_connection}
-use Rattle.p2p_log_rules.specs.Metering.{pings, ping_quota, limit_at, admitted_by, admitted}
-use Rattle.p2p_log_rules.specs.Pings.{ping_frequency_at, last_pinged}
+use Rattle.p2p_log_rules.specs.Metering.{pings, limit_at, admitted_by, admitted}
+use Rattle.p2p_log_rules.specs.Pings.{last_pinged}
 use Rattle.p2p_net_queues.specs.Lines.{HoldsLines}
-use Rattle.p2p_net_queues.specs.Meters.{Meters}
 use Rattle.p2p_net_queues.specs.Tables.{at}
 use Rattle.p2p_net_connections.specs.Connections.{runs_on, pinged_on, spawned_on}
 use Rattle.p2p_net_connections.specs.Dialing.{IsConnectedBy}
+use Rattle.p2p_net_connections.specs.Pinging.{CountsPingsOf}
 use Rattle.p2p_net_connections.specs.declared.connections.Connections.{Connections}
 
 pub record ConnectionsStand (configs : List Config) (log : List Entry) (n : ℕ) (cs : Connections) : Type 0 where
@@ -22,9 +21,11 @@ pub record ConnectionsStand (configs : List Config) (log : List Entry) (n : ℕ)
   pub running : (conn : ℕ) → runs_on (at cs.stages conn) ≡ has_run log n conn
   pub pinged : (conn : ℕ) → pinged_on (at cs.stages conn) ≡ last_pinged configs log n conn
   pub waits : HoldsLines (queue.RouterAnswer n) log cs.answers
-  -- what waits for their quotas, and the quota of pings counts what each of them admitted
+  -- what waits for their quotas
   pub holds : HoldsLines (queue.Held n) log cs.held
-  pub pings : Meters nat_cmp log (ping_quota (ping_frequency_at configs n)) (λ conn. admitted configs log n conn pings) cs.pings
+  pub counts : (conn : ℕ) → CountsPingsOf configs log n conn (at cs.spawned conn)
+  -- nothing came over one of a later name
+  pub unmade : (conn : ℕ) → length log ≤ conn → admitted configs log n conn pings ≡ []
 
 -- an entry in which its spawner makes no connection, and none ends
 abbrev pub SpawnsNone : List Entry → Entry → ℕ → Type 0

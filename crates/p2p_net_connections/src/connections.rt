@@ -7,20 +7,22 @@ ghost use Rattle.p2p_log.specs.Lines.{name_of};
 ghost use Rattle.p2p_net_queues.specs.Tables.{at, waiting, popped_at};
 ghost use Rattle.p2p_net_connections.specs.Connections.{no_connections, spawned_with, begun_with, answered_by, answered, without_answer, named_answer};
 
-use crate::pinging::ping_quota;
 use p2p_base::Key;
 use p2p_log::{Envelope, Item, Queue, Reply};
 use p2p_log_rules::Row;
 use p2p_net_queues::{Deque, Table, Turn, only, taking};
-use p2p_runtime::KeyedRateLimiter;
+use p2p_peer_shared::half_quota;
+use p2p_runtime::RateLimiter;
 use p2p_tracker_directory::Reservation;
 use std::alloc::{AllocError, Global};
 
-/// A connection of a node: the link that it goes over, by its name, and the right to connect with its peer.
+/// A connection of a node: the link that it goes over, by its name, the right to connect with its peer, and the quota of the pings
+/// that come over it.
 #[derive(Drop)]
 pub struct Connection {
     pub link: u64,
     pub reservation: Reservation<Key>,
+    pub pings: RateLimiter,
 }
 
 /// How far a connection is that has begun.
@@ -43,8 +45,6 @@ pub struct Connections {
     pub answers: Table<Deque<Envelope>>,
     /// What came over each connection and waits until its quota admits it, the oldest first.
     pub held: Table<Deque<Envelope>>,
-    /// The quota of the pings that come, on each connection, by the names of connections.
-    pub pings: KeyedRateLimiter<u64>,
 }
 
 impl Drop for Connections {
@@ -54,7 +54,6 @@ impl Drop for Connections {
             stages: _stages,
             answers: _answers,
             held: _held,
-            pings: _pings,
         } = self;
     }
 }
@@ -70,16 +69,15 @@ fn is_answer(item: &Item) -> bool
 }
 
 impl Connections {
-    /// No connections, of a node that pings so often, in nanoseconds.
-    pub fn new(alloc: Global, ping_frequency: u64) -> Connections
-        ensures { result ≡ no_connections ping_frequency }
+    /// No connections.
+    pub fn new(alloc: Global) -> Connections
+        ensures { result ≡ no_connections }
     {
         Connections {
             spawned: Table::new(alloc),
             stages: Table::new(alloc),
             answers: Table::new(alloc),
             held: Table::new(alloc),
-            pings: KeyedRateLimiter::new(alloc, ping_quota(ping_frequency)),
         }
     }
 
@@ -97,7 +95,8 @@ impl Connections {
         self.stages.get(conn)
     }
 
-    /// The node's spawner made a connection over this link, with the peer of this reservation.
+    /// The node's spawner made a connection over this link, with the peer of this reservation. A node that pings so often, in
+    /// nanoseconds, takes one ping in half that time.
     ///
     /// `Err` only where there is no memory. The connection is then not kept, and its node goes no further.
     pub fn spawn(
@@ -105,10 +104,15 @@ impl Connections {
         turn: Turn,
         link: u64,
         reservation: Reservation<Key>,
+        ping_frequency: u64,
     ) -> Result<(), AllocError>
-        ensures { OnOk result (self.new ≡ spawned_with turn.entry link reservation self.old) }
+        ensures { OnOk result (self.new ≡ spawned_with turn.entry link reservation ping_frequency self.old) }
     {
-        let connection = Connection { link, reservation };
+        let connection = Connection {
+            link,
+            reservation,
+            pings: RateLimiter::new(half_quota(ping_frequency)),
+        };
         self.spawned.insert(turn.entry, connection)?;
         Ok(())
     }

@@ -1,22 +1,10 @@
 //! The pings of the connections of a node: when the next is due, and which of those that come are admitted.
-ghost use Rattle.std.specs.Prelude.{◌≡◌, IfOk, OnOk};
-ghost use Rattle.p2p_log_rules.specs.Metering.{ping_quota as quota_of_pings};
+ghost use Rattle.std.specs.Prelude.{◌≡◌, OnOk};
 ghost use Rattle.p2p_log_rules.specs.Pings.{is_past as past_test};
 ghost use Rattle.p2p_net_connections.specs.Connections.{pinged_on, pinged_with, may_ping, ping_metered};
 
 use crate::connections::{Connections, Stage};
-use p2p_runtime::Quota;
 use std::alloc::AllocError;
-
-/// The quota of the pings that come to a node that pings so often, in nanoseconds.
-pub(crate) fn ping_quota(ping_frequency: u64) -> Quota
-    ensures { result ≡ quota_of_pings ping_frequency }
-{
-    let Some(quota) = Quota::with_period((ping_frequency / 2).max(1)) else {
-        unreachable!()
-    };
-    quota
-}
 
 /// Whether the next ping of a connection at this stage is due at the moment `now`, in nanoseconds, of a node that pings so often.
 pub fn is_past(stage: Option<Stage>, frequency: u64, now: u64) -> bool
@@ -43,14 +31,14 @@ impl Connections {
     }
 
     /// Whether a ping that came over a connection is admitted at this moment, in nanoseconds. One that is admitted counts from
-    /// then on.
-    ///
-    /// `Err` only where there is no memory. Its node goes no further then.
-    pub fn admit_ping(&mut self, conn: u64, now: u64) -> Result<bool, AllocError>
-        ensures admits { IfOk result (λ b. b ≡ may_ping self.old conn now) }
-        ensures after { OnOk result (self.new ≡ ping_metered conn now self.old) }
+    /// then on. None is over one that has ended.
+    pub fn admit_ping(&mut self, conn: u64, now: u64) -> bool
+        ensures admits { result ≡ may_ping self.old conn now }
+        ensures after { self.new ≡ ping_metered conn now self.old }
     {
-        let answer = self.pings.check_key(&conn, now)?;
-        Ok(answer.is_ok())
+        match self.spawned.find_mut(conn) {
+            Some(connection) => connection.pings.check(now).is_ok(),
+            None => false,
+        }
     }
 }

@@ -11,8 +11,8 @@ ghost use Rattle.p2p_net_connections.specs.Spawner.{no_spawning, refuses, told_r
 use p2p_base::{Key, NoRoom, Sent};
 use p2p_log::{Item, Queue};
 use p2p_log_rules::Row;
-use p2p_net_queues::{Deque, Turn};
 use p2p_lookup::spawner::{Mailbox, Message};
+use p2p_net_queues::{Deque, Turn};
 use p2p_tracker_directory::Reservation;
 use p2p_tracker_mailbox::Mailbox as Tracker;
 use std::alloc::{AllocError, Global};

@@ -108,7 +108,7 @@ nobody_heard n conn = unheard (is_begun [] n conn) (live_connection [] n conn) (
 -- a node that was asked for nothing
 pub node_new :
     (configs : List Config) (n : ℕ) (x : Node) → slice_get configs n ≡ Some x.config → x.retained ≡ x.config.max_peers_per_set * x.config.tracked_peer_sets → x.stopped ≡ false → x.failed ≡ false → x.config.mailbox_size < 2 ^ 64
-    → x.router.number ≡ n → StandsFor configs [] x.router → ((c : ℕ) → tree.get nat_cmp x.router.peers c ≡ None) → x.channels ≡ no_channels → x.connections ≡ no_connections x.config.ping_frequency → IsNew x.config x.tracker → x.dialing ≡ no_dialing → IsNewListening (gates_of x.config) x.listening → x.spawning ≡ no_spawning x.config.mailbox_size
+    → x.router.number ≡ n → StandsFor configs [] x.router → ((c : ℕ) → tree.get nat_cmp x.router.peers c ≡ None) → x.channels ≡ no_channels → x.connections ≡ no_connections → IsNew x.config x.tracker → x.dialing ≡ no_dialing → IsNewListening (gates_of x.config) x.listening → x.spawning ≡ no_spawning x.config.mailbox_size
     → NodeStands configs [] n x
 node_new configs n x config retained runs works small number stands none ch cs tr di li sp = record {
   own = record { config = config; retained = retained; works = works };
@@ -124,7 +124,7 @@ node_new configs n x config retained runs works small number stands none ch cs t
     | place.channels ↦
         subst (ChannelsStand configs [] n) (sym ch)
         (channels_new configs n (subst (λ k. k < 2 ^ 64) (sym (ap (λ (o : Option Config). elim o [ None ↦ 0 | Some c ↦ c.mailbox_size ]) config)) small))
-    | place.connections ↦ subst (ConnectionsStand configs [] n) (sym (cs ∙ ap no_connections (sym (ap (λ (o : Option Config). elim o [ None ↦ 0 | Some c ↦ c.ping_frequency ]) config)))) (connections_new configs n)
+    | place.connections ↦ subst (ConnectionsStand configs [] n) (sym cs) (connections_new configs n)
     | place.tracker ↦ tracker_new configs n x.config x.tracker config tr
     | place.dialer ↦ subst (DialerStands configs [] n) (sym di) (dialer_new configs n)
     | place.listener ↦

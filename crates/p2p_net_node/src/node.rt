@@ -80,7 +80,7 @@ impl Node {
         ensures peers { IfOk result (λ x. (c : ℕ) → tree.get nat_cmp x.router.peers c ≡ None) }
         ensures tracker { IfOk result (λ x. IsNew config x.tracker) }
         ensures channels { IfOk result (λ x. x.channels ≡ no_channels) }
-        ensures connections { IfOk result (λ x. x.connections ≡ no_connections config.ping_frequency) }
+        ensures connections { IfOk result (λ x. x.connections ≡ no_connections) }
         ensures dialing { IfOk result (λ x. x.dialing ≡ no_dialing) }
         ensures listening { IfOk result (λ x. IsNewListening (gates_of config) x.listening) }
         ensures spawning { IfOk result (λ x. x.spawning ≡ no_spawning config.mailbox_size) }
@@ -97,7 +97,7 @@ impl Node {
             retained: retained(&config),
             router: Router::new(alloc, number),
             channels: Channels::new(alloc),
-            connections: Connections::new(alloc, config.ping_frequency),
+            connections: Connections::new(alloc),
             tracker,
             dialing: Dialing::new(alloc),
             listening,

@@ -1,4 +1,5 @@
 pub mod Board
+pub mod Lends
 pub mod Lines
 pub mod Matching
 pub mod Meters

@@ -4,7 +4,9 @@ ghost use Rattle.std.specs.List.Sorted.{IsStrictlySortedBy};
 ghost use Rattle.std.specs.Map.{keys_of};
 ghost use Rattle.std.specs.BTreeMap.{insert_entry};
 ghost use Rattle.std.specs.Ordering.{nat_cmp};
-ghost use Rattle.std.specs.Option.{option_copied};
+ghost use Rattle.std.specs.Borrow.{sem};
+ghost use Rattle.std.specs.Option.{option_copied, option_copied_mut};
+ghost use Rattle.p2p_net_queues.specs.Lends.{lends_at};
 ghost use Rattle.p2p_net_queues.specs.Meters.{answer_at, checked_at};
 ghost use Rattle.p2p_net_queues.specs.Tables.{at, waiting, pushed_at, popped_at, cleared_at};
 
@@ -81,6 +83,14 @@ impl<V: Drop> Table<V> {
         ensures { option_copied result ≡ at self.now key }
     {
         self.tree.get(&key)
+    }
+
+    /// The value of a key, to be changed where it stands.
+    pub fn find_mut(&mut self, key: u64) -> Option<&mut V>
+        ensures* writes_back { sem 𝓛 (lends_at V.row self.entry key result) }
+        ensures value { option_copied_mut result ≡ at self.old key }
+    {
+        self.tree.get_mut(&key)
     }
 }
 

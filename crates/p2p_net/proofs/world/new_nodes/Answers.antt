@@ -2,7 +2,6 @@ use Rattle.std.proofs.Common.{arith, ◌≡◌, ◌*◌, ◌<◌, ◌^◌, ◌�
 use Rattle.std.specs.Prelude.{slice_get, Some, slice_index_or}
 use Rattle.std.proofs.lemmas.Option.{slice_get-get_or}
 use Rattle.p2p_log.specs.declared.config.Config.{Config}
-use Rattle.p2p_net_connections.specs.Connections.{no_connections}
 use Rattle.p2p_net_gates.specs.Dialing.{gates_of}
 use Rattle.p2p_net_gates.specs.Listening.{IsNew as IsNewListening}
 use Rattle.p2p_net_connections.specs.Spawner.{no_spawning}
@@ -27,7 +26,7 @@ loop-number-preserved c =
     node_new configs n new there (c.in_ok-new.ensures.retained ∙ ap (λ (z : Config). z.max_peers_per_set * z.tracked_peer_sets) (sym c.in_ok-new.ensures.config)) c.in_ok-new.ensures.runs c.in_ok-new.ensures.works
     (subst (λ (z : Config). z.mailbox_size < 2 ^ 64) (sym c.in_ok-new.ensures.config) c.in_ok-new.ensures.counted) c.in_ok-new.ensures.number (c.in_ok-new.ensures.router configs) c.in_ok-new.ensures.peers
     c.in_ok-new.ensures.channels
-    (subst (λ (z : Config). new.connections ≡ no_connections z.ping_frequency) (sym c.in_ok-new.ensures.config) c.in_ok-new.ensures.connections) (subst (λ (z : Config). IsNew z new.tracker) (sym c.in_ok-new.ensures.config) c.in_ok-new.ensures.tracker) c.in_ok-new.ensures.dialing
+    c.in_ok-new.ensures.connections (subst (λ (z : Config). IsNew z new.tracker) (sym c.in_ok-new.ensures.config) c.in_ok-new.ensures.tracker) c.in_ok-new.ensures.dialing
     (subst (λ (z : Config). IsNewListening (gates_of z) new.listening) (sym c.in_ok-new.ensures.config) c.in_ok-new.ensures.listening)
     (subst (λ (z : Config). new.spawning ≡ no_spawning z.mailbox_size) (sym c.in_ok-new.ensures.config) c.in_ok-new.ensures.spawning)
     in
