@@ -1,7 +1,7 @@
 -- What is taken of a source by several reads.
 use Rattle.std.proofs.Common.{List, ℕ, [], ◌++◌, Option, Some, None, refl, sym, ap, ◌∙◌, append_assoc}
 use Rattle.std.specs.Option.{option_map}
-use Rattle.p2p_sim.specs.Input.{Takes}
+use Rattle.p2p_sim.specs.Streams.{Takes}
 
 -- nothing was taken
 pub Takes-none : (left : Option (List ℕ)) → Takes left [] left

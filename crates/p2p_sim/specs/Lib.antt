@@ -6,6 +6,7 @@ pub mod Judged
 pub mod Network
 pub mod Outcomes
 pub mod ScriptWords
+pub mod Streams
 pub mod Summed
 pub mod Taken
 pub mod ThreadText

@@ -1,10 +1,10 @@
 -- What a status tells of the source, the sink and the world.
-use Rattle.std.specs.Prelude.{◌≡◌, ℕ, List, ◌++◌, Option, Some, None, Result, Ok, Err}
-use Rattle.std.specs.Option.{option_map}
+use Rattle.std.specs.Prelude.{◌≡◌, ℕ, ◌+◌, ◌≤◌, ◌↔◌, ◌⊎◌, List, [], length, Option, Some, None, IfSome, Result, Ok, Err}
 use Rattle.serde_json.specs.Data.{Data}
-use Rattle.p2p_sim.specs.Input.{Adds, json_of}
+use Rattle.p2p_sim.specs.Input.{json_of}
+use Rattle.p2p_sim.specs.Streams.{Takes, Adds, AddsFront}
 use Rattle.p2p_sim.specs.Faults.{status_of, line_of}
-use Rattle.p2p_sim.specs.Judged.{judged}
+use Rattle.p2p_sim.specs.Judged.{judged, status_due}
 use Rattle.p2p_sim.specs.declared.program.Refusal.{Refusal}
 use Rattle.p2p_sim.specs.declared.fault.Fault.{Fault}
 use Rattle.p2p_sim.specs.declared.status.Status.{Status}
@@ -26,12 +26,23 @@ IsSilent status.TooLong = Unit {0}
 IsSilent status.Memory = Unit {0}
 IsSilent _ = ⊥
 
--- the status comes before the input is judged
-abbrev pub IsUnread : Status → Type 0
-IsUnread status.Usage = Unit {0}
-IsUnread status.ReadFault = Unit {0}
-IsUnread status.TooLong = Unit {0}
-IsUnread _ = ⊥
+-- the status of a command that reads nothing
+abbrev pub IsOfWriting : Status → Type 0
+IsOfWriting said = (said ≡ status.Ok) ⊎ ((said ≡ status.WriteFault) ⊎ (said ≡ status.Memory))
+
+-- the source was read: at most one byte more than the limit was taken, which one status tells, and each that tells of an input comes at the end
+pub record HasRead (limit : ℕ) (said : Status) (left rest : Option (List ℕ)) : Type 0 where
+  pub taken : List ℕ
+  pub takes : Takes left taken rest
+  pub within : length taken ≤ limit + 1
+  pub too_long : (said ≡ status.TooLong) ↔ (length taken ≡ limit + 1)
+  pub at_end : ¬ IsSilent said → IfSome rest (λ bytes. bytes ≡ [])
+
+-- the sink got the text after `Ok`, and a front of it where writing stopped
+pub record HasWritten (text : List ℕ) (said : Status) (held now : Option (List ℕ)) : Type 0 where
+  pub told : IsOfWriting said
+  pub whole : said ≡ status.Ok → Adds held text now
+  pub front : said ≡ status.WriteFault → AddsFront held text now
 
 -- the input was run: it is a JSON tree that the program doesn't refuse, the world that is left ran it, and the sink got the report
 pub record HasRun {W : Type 0} (refusal_of : Data → Option Refusal) (Runs : Data → W → List ℕ → Type 0) (input : List ℕ) (held now : Option (List ℕ)) (left : Option W) : Type 0 where
@@ -59,6 +70,9 @@ IsDue Runs (Err cause) text = text ≡ line_of cause
 -- writing stopped: the sink got a front of the text that is due
 pub record HasStopped {W : Type 0} (refusal_of : Data → Option Refusal) (Runs : Data → W → List ℕ → Type 0) (input : List ℕ) (held now : Option (List ℕ)) : Type 0 where
   pub text : List ℕ
-  pub rest : List ℕ
   pub due : IsDue Runs (judged refusal_of input) text
-  pub front : option_map (λ bytes. bytes ++ rest) now ≡ option_map (λ bytes. bytes ++ text) held
+  pub front : AddsFront held text now
+
+-- the input alone decides the status, but for faults of the streams and want of memory
+abbrev pub IsDecided : (Data → Option Refusal) → List ℕ → Status → Type 0
+IsDecided refusal_of input said = (said ≡ status_due (judged refusal_of input)) ⊎ ((said ≡ status.ReadFault) ⊎ ((said ≡ status.WriteFault) ⊎ (said ≡ status.Memory)))

@@ -1,8 +1,6 @@
 //! What is written of an input, and what is left of its run.
-ghost use Rattle.std.specs.Prelude.{◌≡◌, ℕ, ◌≤◌, List, ◌++◌, ◌⊎◌};
-ghost use Rattle.std.specs.Option.{option_map};
-ghost use Rattle.p2p_runtime.specs.Streams.{Rose};
-ghost use Rattle.p2p_sim.specs.Input.{Adds};
+ghost use Rattle.std.specs.Prelude.{◌≡◌, ◌⊎◌};
+ghost use Rattle.p2p_sim.specs.Streams.{Adds, AddsFront, HasCounted};
 ghost use Rattle.p2p_sim.specs.Faults.{status_of, line_of};
 ghost use Rattle.p2p_sim.specs.Judged.{judged, status_due};
 ghost use Rattle.p2p_sim.specs.Outcomes.{IsRefusal, HasRun, HasRefused, HasStopped};
@@ -28,11 +26,7 @@ pub fn answer<P: Program, K: Sink>(
     ensures refused { IsRefusal result → HasRefused P.refusal_of input.now result (K.bytes_held sink.old) (K.bytes_held sink.new) }
     ensures stopped { result ≡ status.WriteFault → HasStopped P.refusal_of P.Runs input.now (K.bytes_held sink.old) (K.bytes_held sink.new) }
     ensures due { (result ≡ status_due (judged P.refusal_of input.now)) ⊎ ((result ≡ status.WriteFault) ⊎ (result ≡ status.Memory)) }
-
-    // A fault is told exactly where the count rose, and want of memory has written nothing.
-    ensures write_fault { result ≡ status.WriteFault → Rose (K.faults_of sink.old) (K.faults_of sink.new) }
-    ensures no_fault { ¬ (result ≡ status.WriteFault) → K.faults_of sink.new ≡ K.faults_of sink.old }
-    ensures count { K.faults_of sink.old ≤ K.faults_of sink.new }
+    ensures faults { HasCounted (result ≡ status.WriteFault) (K.faults_of sink.old) (K.faults_of sink.new) }
     ensures unwritten { result ≡ status.Memory → sink.new ≡ sink.old }
     ensures end_kept { ¬ (result ≡ status.Ok) → end.new ≡ end.old }
 {
@@ -53,11 +47,8 @@ pub fn answer<P: Program, K: Sink>(
 fn refuse<K: Sink>(alloc: Global, cause: Fault, sink: &mut K) -> Status
     ensures said { (result ≡ status_of cause) ⊎ ((result ≡ status.WriteFault) ⊎ (result ≡ status.Memory)) }
     ensures line { result ≡ status_of cause → Adds (K.bytes_held sink.old) (line_of cause) (K.bytes_held sink.new) }
-    ensures front { result ≡ status.WriteFault → (rest : List ℕ)
-        × (option_map (λ bytes. bytes ++ rest) (K.bytes_held sink.new) ≡ option_map (λ bytes. bytes ++ line_of cause) (K.bytes_held sink.old)) }
-    ensures write_fault { result ≡ status.WriteFault → Rose (K.faults_of sink.old) (K.faults_of sink.new) }
-    ensures no_fault { ¬ (result ≡ status.WriteFault) → K.faults_of sink.new ≡ K.faults_of sink.old }
-    ensures count { K.faults_of sink.old ≤ K.faults_of sink.new }
+    ensures front { result ≡ status.WriteFault → AddsFront (K.bytes_held sink.old) (line_of cause) (K.bytes_held sink.new) }
+    ensures faults { HasCounted (result ≡ status.WriteFault) (K.faults_of sink.old) (K.faults_of sink.new) }
     ensures unwritten { result ≡ status.Memory → sink.new ≡ sink.old }
 {
     let Ok(line) = cause.line(alloc) else {

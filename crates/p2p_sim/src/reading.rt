@@ -1,7 +1,7 @@
 //! The source, read to its end.
 ghost use Rattle.std.specs.Prelude.{◌≡◌, ℕ, ◌+◌, ◌<◌, ◌≤◌, ◌↔◌, List, [], length, vec_len, Err, IfOk, OnOk, OnErr, IfSome};
 ghost use Rattle.p2p_runtime.specs.Streams.{Rose};
-ghost use Rattle.p2p_sim.specs.Input.{Takes, IsAllOf};
+ghost use Rattle.p2p_sim.specs.Streams.{Takes, IsAllOf, HasCounted};
 ghost use Rattle.p2p_sim.specs.declared.reading.ReadEnd.TheVariants as read_end;
 
 use p2p_runtime::{Failed, Source};
@@ -37,9 +37,7 @@ pub fn read_all<S: Source>(alloc: Global, source: &mut S) -> Result<Vec<u8>, Rea
     ensures within { IfOk result (λ bytes. vec_len bytes ≤ LIMIT) }
     ensures taken { (taken : List ℕ) × Takes (S.bytes_left source.old) taken (S.bytes_left source.new)
         × (length taken ≤ LIMIT + 1) × ((result ≡ Err read_end.TooLong) ↔ (length taken ≡ LIMIT + 1)) }
-    ensures count { S.faults_of source.old ≤ S.faults_of source.new }
-    ensures fault { result ≡ Err read_end.Fault → Rose (S.faults_of source.old) (S.faults_of source.new) }
-    ensures no_fault { ¬ (result ≡ Err read_end.Fault) → S.faults_of source.new ≡ S.faults_of source.old }
+    ensures faults { HasCounted (result ≡ Err read_end.Fault) (S.faults_of source.old) (S.faults_of source.new) }
 {
     let mut bytes = Vec::new(alloc);
     let Ok(mut piece) = zeros(alloc, PIECE) else {
@@ -68,7 +66,6 @@ fn read_front<'a, S: Source>(source: &mut S, buf: &'a mut [u8]) -> Result<&'a [u
     ensures took { IfOk result (λ front. Takes (S.bytes_left source.old) front.now (S.bytes_left source.new)) }
     ensures within { IfOk result (λ front. length front.now ≤ length buf.entry.now) }
     ensures end { IfOk result (λ front. length front.now ≡ 0 → IfSome (S.bytes_left source.new) (λ rest. rest ≡ [])) }
-    ensures count { S.faults_of source.old ≤ S.faults_of source.new }
     ensures fault { OnErr result (Rose (S.faults_of source.old) (S.faults_of source.new)) }
     ensures no_fault { OnOk result (S.faults_of source.new ≡ S.faults_of source.old) }
     ensures kept { OnErr result (S.bytes_left source.new ≡ S.bytes_left source.old) }

@@ -1,7 +1,7 @@
 //! What the command writes.
-ghost use Rattle.std.specs.Prelude.{◌≡◌, ◌≤◌, ◌⊎◌};
-ghost use Rattle.p2p_runtime.specs.Streams.{Rose};
-ghost use Rattle.p2p_sim.specs.Summed.{HasSummed, HasSummedInPart};
+ghost use Rattle.std.specs.Prelude.{◌≡◌, ◌≤◌};
+ghost use Rattle.p2p_sim.specs.Streams.{HasCounted};
+ghost use Rattle.p2p_sim.specs.Summed.{HasGenerated};
 ghost use Rattle.p2p_sim.specs.declared.status.Status.TheVariants as status;
 
 use crate::generator::running::run;
@@ -22,11 +22,8 @@ pub fn summarize<K: Sink>(
     end: &mut Option<World>,
 ) -> Status
     requires { count ≤ 100000 }
-    ensures status { (result ≡ status.Ok) ⊎ ((result ≡ status.WriteFault) ⊎ (result ≡ status.Memory)) }
-    ensures ok { result ≡ status.Ok → HasSummed count seed (K.bytes_held sink.old) (K.bytes_held sink.new) end.new }
-    ensures front { result ≡ status.WriteFault → HasSummedInPart count seed (K.bytes_held sink.old) (K.bytes_held sink.new) }
-    ensures write_fault { result ≡ status.WriteFault → Rose (K.faults_of sink.old) (K.faults_of sink.new) }
-    ensures no_fault { ¬ (result ≡ status.WriteFault) → K.faults_of sink.new ≡ K.faults_of sink.old }
+    ensures generated { HasGenerated count seed result (K.bytes_held sink.old) (K.bytes_held sink.new) end.new }
+    ensures faults { HasCounted (result ≡ status.WriteFault) (K.faults_of sink.old) (K.faults_of sink.new) }
     ensures unwritten { result ≡ status.Memory → sink.new ≡ sink.old }
     ensures end_kept { ¬ (result ≡ status.Ok) → end.new ≡ end.old }
 {

@@ -1,8 +1,7 @@
 //! What the command writes.
-ghost use Rattle.std.specs.Prelude.{◌≡◌, ℕ, ◌≤◌, List, ◌++◌, ◌⊎◌, IfSome, IfNone};
-ghost use Rattle.std.specs.Option.{option_map};
-ghost use Rattle.p2p_runtime.specs.Streams.{Rose};
-ghost use Rattle.p2p_sim.specs.Input.{Adds};
+ghost use Rattle.std.specs.Prelude.{◌≡◌, ◌≤◌, IfSome, IfNone};
+ghost use Rattle.p2p_sim.specs.Outcomes.{HasWritten};
+ghost use Rattle.p2p_sim.specs.Streams.{HasCounted};
 ghost use Rattle.p2p_sim.specs.declared.status.Status.TheVariants as status;
 ghost use Rattle.p2p_sim.specs.ThreadText.{thread_text};
 
@@ -30,12 +29,8 @@ pub fn thread_report<R: Threads + Wait + Sync, K: Sink, G: Gate>(
 ) -> Status
     requires n { (1 ≤ n) × (n ≤ 64) }
     requires m { (1 ≤ m) × (m ≤ 10000) }
-    ensures status { (result ≡ status.Ok) ⊎ ((result ≡ status.WriteFault) ⊎ (result ≡ status.Memory)) }
-    ensures ok { result ≡ status.Ok → Adds (K.bytes_held sink.old) (thread_text n m) (K.bytes_held sink.new) }
-    ensures front { result ≡ status.WriteFault → (rest : List ℕ)
-        × (option_map (λ bytes. bytes ++ rest) (K.bytes_held sink.new) ≡ option_map (λ bytes. bytes ++ thread_text n m) (K.bytes_held sink.old)) }
-    ensures write_fault { result ≡ status.WriteFault → Rose (K.faults_of sink.old) (K.faults_of sink.new) }
-    ensures no_fault { ¬ (result ≡ status.WriteFault) → K.faults_of sink.new ≡ K.faults_of sink.old }
+    ensures written { HasWritten (thread_text n m) result (K.bytes_held sink.old) (K.bytes_held sink.new) }
+    ensures faults { HasCounted (result ≡ status.WriteFault) (K.faults_of sink.old) (K.faults_of sink.new) }
     ensures unwritten { result ≡ status.Memory → sink.new ≡ sink.old }
 {
     let Ok(text) = run(rt, alloc, n, m, gate) else {

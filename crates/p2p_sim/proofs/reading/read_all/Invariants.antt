@@ -1,5 +1,5 @@
 use Rattle.std.proofs.Common.{◌≡◌, ◌-◌, ◌≤◌, vec_len}
-use Rattle.p2p_sim.specs.Input.{Takes}
+use Rattle.p2p_sim.specs.Streams.{Takes}
 use Rattle.p2p_sim.proofs.reading.read_all.Given as goal
 
 -- no read failed so far, and what was read is what was taken
