@@ -3,24 +3,23 @@ use Rattle.std.specs.Prelude.{ℕ, List, Option, Some, None, Result, Ok, Err}
 use Rattle.serde_json.specs.Data.{Data}
 use Rattle.p2p_sim.specs.Input.{json_of}
 use Rattle.p2p_sim.specs.Faults.{status_of}
-use Rattle.p2p_sim.specs.declared.program.Refusal.{Refusal}
 use Rattle.p2p_sim.specs.declared.fault.Fault.{Fault}
-use Rattle.p2p_sim.specs.declared.fault.Fault.TheVariants.{NotJson, Refused}
+use Rattle.p2p_sim.specs.declared.fault.Fault.TheVariants.{NotJson}
 use Rattle.p2p_sim.specs.declared.status.Status.{Status}
 use Rattle.p2p_sim.specs.declared.status.Status.TheVariants as status
 
 -- a tree that is refused, or not
-abbrev pub tree_or_refusal : Data → Option Refusal → Result Data Fault
+abbrev pub tree_or_refusal : Data → Option Fault → Result Data Fault
 tree_or_refusal tree None = Ok tree
-tree_or_refusal tree (Some r) = Err (Refused r)
+tree_or_refusal tree (Some f) = Err f
 
 -- what was read as JSON, or wasn't
-abbrev pub tree_judged : (Data → Option Refusal) → Option Data → Result Data Fault
+abbrev pub tree_judged : (Data → Option Fault) → Option Data → Result Data Fault
 tree_judged refusal_of None = Err NotJson
 tree_judged refusal_of (Some tree) = tree_or_refusal tree (refusal_of tree)
 
 -- the tree that is run; first the input has to be JSON, and then the program has to accept its tree
-abbrev pub judged : (Data → Option Refusal) → List ℕ → Result Data Fault
+abbrev pub judged : (Data → Option Fault) → List ℕ → Result Data Fault
 judged refusal_of input = tree_judged refusal_of (json_of input)
 
 -- the status that tells it

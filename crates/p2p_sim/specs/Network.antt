@@ -11,24 +11,24 @@ use Rattle.p2p_sim_script.specs.Form.{script_of}
 use Rattle.p2p_sim_report.specs.ReportText.{report_text}
 use Rattle.p2p_net_node.specs.Stands.{WorldStands}
 use Rattle.p2p_net.specs.World.{WorldView}
-use Rattle.p2p_sim.specs.declared.program.Refusal.{Refusal}
-use Rattle.p2p_sim.specs.declared.program.Refusal.TheVariants as refusal
+use Rattle.p2p_sim.specs.declared.fault.Fault.{Fault}
+use Rattle.p2p_sim.specs.declared.fault.Fault.TheVariants as fault
 
 -- the first configuration that isn't valid, or else the first event
-abbrev pub first_fault : Option ℕ → Option ℕ → Option Refusal
-first_fault (Some i) event = Some (refusal.Config i)
-first_fault None (Some i) = Some (refusal.Event i)
+abbrev pub first_fault : Option ℕ → Option ℕ → Option Fault
+first_fault (Some i) event = Some (fault.Config i)
+first_fault None (Some i) = Some (fault.Event i)
 first_fault None None = None
 
-abbrev pub fault_of : List Config → List Event → Option Refusal
+abbrev pub fault_of : List Config → List Event → Option Fault
 fault_of configs script = first_fault (config_fault configs) (event_fault configs script)
 
 -- a tree is run that says a script that is valid
-abbrev pub tree_refusal : Option (List Config × List Event) → Option Refusal
-tree_refusal None = Some refusal.NotScript
+abbrev pub tree_refusal : Option (List Config × List Event) → Option Fault
+tree_refusal None = Some fault.NotScript
 tree_refusal (Some s) = fault_of s.0 s.1
 
-abbrev pub refusal_of : Data → Option Refusal
+abbrev pub refusal_of : Data → Option Fault
 refusal_of tree = tree_refusal (script_of tree)
 
 -- the world's log is the one log that is lawful for the configurations and the script, and its nodes and links stand for it: every

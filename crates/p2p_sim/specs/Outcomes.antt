@@ -5,7 +5,6 @@ use Rattle.p2p_sim.specs.Input.{json_of}
 use Rattle.p2p_sim.specs.Streams.{Takes, Adds, AddsFront}
 use Rattle.p2p_sim.specs.Faults.{status_of, line_of}
 use Rattle.p2p_sim.specs.Judged.{judged, status_due}
-use Rattle.p2p_sim.specs.declared.program.Refusal.{Refusal}
 use Rattle.p2p_sim.specs.declared.fault.Fault.{Fault}
 use Rattle.p2p_sim.specs.declared.status.Status.{Status}
 use Rattle.p2p_sim.specs.declared.status.Status.TheVariants as status
@@ -45,7 +44,7 @@ pub record HasWritten (text : List ℕ) (said : Status) (held now : Option (List
   pub front : said ≡ status.WriteFault → AddsFront held text now
 
 -- the input was run: it is a JSON tree that the program doesn't refuse, the world that is left ran it, and the sink got the report
-pub record HasRun {W : Type 0} (refusal_of : Data → Option Refusal) (Runs : Data → W → List ℕ → Type 0) (input : List ℕ) (held now : Option (List ℕ)) (left : Option W) : Type 0 where
+pub record HasRun {W : Type 0} (refusal_of : Data → Option Fault) (Runs : Data → W → List ℕ → Type 0) (input : List ℕ) (held now : Option (List ℕ)) (left : Option W) : Type 0 where
   pub tree : Data
   pub world : W
   pub report : List ℕ
@@ -56,7 +55,7 @@ pub record HasRun {W : Type 0} (refusal_of : Data → Option Refusal) (Runs : Da
   pub writes : Adds held report now
 
 -- the input wasn't run: the status tells the cause, and the sink got its line
-pub record HasRefused (refusal_of : Data → Option Refusal) (input : List ℕ) (said : Status) (held now : Option (List ℕ)) : Type 0 where
+pub record HasRefused (refusal_of : Data → Option Fault) (input : List ℕ) (said : Status) (held now : Option (List ℕ)) : Type 0 where
   pub cause : Fault
   pub refused : judged refusal_of input ≡ Err cause
   pub says : said ≡ status_of cause
@@ -68,11 +67,11 @@ IsDue {W} Runs (Ok tree) text = (world : W) × Runs tree world text
 IsDue Runs (Err cause) text = text ≡ line_of cause
 
 -- writing stopped: the sink got a front of the text that is due
-pub record HasStopped {W : Type 0} (refusal_of : Data → Option Refusal) (Runs : Data → W → List ℕ → Type 0) (input : List ℕ) (held now : Option (List ℕ)) : Type 0 where
+pub record HasStopped {W : Type 0} (refusal_of : Data → Option Fault) (Runs : Data → W → List ℕ → Type 0) (input : List ℕ) (held now : Option (List ℕ)) : Type 0 where
   pub text : List ℕ
   pub due : IsDue Runs (judged refusal_of input) text
   pub front : AddsFront held text now
 
 -- the input alone decides the status, but for faults of the streams and want of memory
-abbrev pub IsDecided : (Data → Option Refusal) → List ℕ → Status → Type 0
+abbrev pub IsDecided : (Data → Option Fault) → List ℕ → Status → Type 0
 IsDecided refusal_of input said = (said ≡ status_due (judged refusal_of input)) ⊎ ((said ≡ status.ReadFault) ⊎ ((said ≡ status.WriteFault) ⊎ (said ≡ status.Memory)))

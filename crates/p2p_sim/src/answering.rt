@@ -7,8 +7,7 @@ ghost use Rattle.p2p_sim.specs.Outcomes.{IsRefusal, HasRun, HasRefused, HasStopp
 ghost use Rattle.p2p_sim.specs.declared.status.Status.TheVariants as status;
 
 use crate::fault::Fault;
-use crate::judging::{Stop, judge};
-use crate::program::Program;
+use crate::program::{Program, RunError};
 use crate::status::Status;
 use p2p_runtime::{Sink, write_all};
 use std::alloc::Global;
@@ -30,7 +29,7 @@ pub fn answer<P: Program, K: Sink>(
     ensures unwritten { result ≡ status.Memory → sink.new ≡ sink.old }
     ensures end_kept { ¬ (result ≡ status.Ok) → end.new ≡ end.old }
 {
-    match judge::<P>(alloc, input) {
+    match P::run(alloc, input) {
         Ok((world, report)) => {
             if write_all(sink, report.as_bytes()).is_err() {
                 return Status::WriteFault;
@@ -38,8 +37,8 @@ pub fn answer<P: Program, K: Sink>(
             *end = Some(world);
             Status::Ok
         }
-        Err(Stop::Fault(cause)) => refuse(alloc, cause, sink),
-        Err(Stop::Memory) => Status::Memory,
+        Err(RunError::Fault(cause)) => refuse(alloc, cause, sink),
+        Err(RunError::Memory) => Status::Memory,
     }
 }
 

@@ -3,19 +3,21 @@ ghost use Rattle.std.specs.Prelude.{◌≡◌, IfOk};
 ghost use Rattle.std.specs.String.{string_bytes};
 ghost use Rattle.p2p_sim.specs.Faults.{status_of, line_of};
 ghost use Rattle.p2p_sim.specs.declared.fault.Fault.TheVariants as fault;
-ghost use Rattle.p2p_sim.specs.declared.program.Refusal.TheVariants as refusal;
 
-use crate::program::Refusal;
 use crate::status::Status;
 use std::alloc::{AllocError, Global};
 
 /// Why an input isn't run.
 #[derive(Clone, Copy, PartialEq, Eq, Debug)]
 pub enum Fault {
-    /// The input isn't JSON.
+    /// The input isn't UTF-8, or isn't JSON.
     NotJson,
-    /// Its tree isn't run, for this cause.
-    Refused(Refusal),
+    /// The JSON isn't a script.
+    NotScript,
+    /// The configuration at this place is the first that isn't valid.
+    Config(usize),
+    /// The configurations are valid, and the event at this place is the first that isn't.
+    Event(usize),
 }
 
 impl Fault {
@@ -25,9 +27,9 @@ impl Fault {
     {
         match self {
             Fault::NotJson => Status::NotJson,
-            Fault::Refused(Refusal::NotScript) => Status::NotScript,
-            Fault::Refused(Refusal::Config(_)) => Status::Config,
-            Fault::Refused(Refusal::Event(_)) => Status::Event,
+            Fault::NotScript => Status::NotScript,
+            Fault::Config(_) => Status::Config,
+            Fault::Event(_) => Status::Event,
         }
     }
 
@@ -37,24 +39,24 @@ impl Fault {
     {
         match self {
             Fault::NotJson => String::from_str(alloc, "{\"error\":\"json\"}\n"),
-            Fault::Refused(Refusal::NotScript) => String::from_str(
+            Fault::NotScript => String::from_str(
                 alloc,
                 "{\"error\":\"script\"}\n",
             ),
-            Fault::Refused(Refusal::Config(i)) => config_line(alloc, i),
-            Fault::Refused(Refusal::Event(i)) => event_line(alloc, i),
+            Fault::Config(i) => config_line(alloc, i),
+            Fault::Event(i) => event_line(alloc, i),
         }
     }
 }
 
 fn config_line(alloc: Global, i: usize) -> Result<String, AllocError>
-    ensures { IfOk result (λ line. string_bytes line ≡ line_of (fault.Refused (refusal.Config i))) }
+    ensures { IfOk result (λ line. string_bytes line ≡ line_of (fault.Config i)) }
 {
     format!(in alloc; "{{\"config\":{i},\"error\":\"config\"}}\n")
 }
 
 fn event_line(alloc: Global, i: usize) -> Result<String, AllocError>
-    ensures { IfOk result (λ line. string_bytes line ≡ line_of (fault.Refused (refusal.Event i))) }
+    ensures { IfOk result (λ line. string_bytes line ≡ line_of (fault.Event i)) }
 {
     format!(in alloc; "{{\"error\":\"event\",\"event\":{i}}}\n")
 }

@@ -7,7 +7,6 @@ mod answering;
 mod commands;
 pub mod fault;
 mod generator;
-mod judging;
 mod network;
 pub mod program;
 pub mod reading;
@@ -19,7 +18,7 @@ mod words;
 
 pub use crate::commands::p2p_sim;
 pub use crate::fault::Fault;
-pub use crate::program::{Refusal, RunError};
+pub use crate::program::RunError;
 pub use crate::reading::LIMIT;
 pub use crate::script::{ScriptError, read_script};
 pub use crate::status::Status;

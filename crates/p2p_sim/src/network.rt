@@ -5,10 +5,12 @@ ghost use Rattle.serde_json.specs.Data.{Data};
 ghost use Rattle.p2p_log_laws.specs.Accounted.{IsAccounted};
 ghost use Rattle.p2p_sim_script.specs.Form.{script_of};
 ghost use Rattle.p2p_sim.specs.Input.{json_of};
+ghost use Rattle.p2p_sim.specs.Judged.{judged};
 ghost use Rattle.p2p_sim.specs.Network.{fault_of, refusal_of as refusal_of_tree, HasRunScript};
 ghost use Rattle.p2p_sim.specs.declared.program.RunError.TheVariants as run_error;
 
-use crate::program::{Program, Refusal, RunError};
+use crate::fault::Fault;
+use crate::program::{Program, RunError};
 use crate::script::{ScriptError, read_script};
 use p2p_base::List;
 use p2p_log::{Config, Event};
@@ -43,32 +45,29 @@ impl Program for Network {
 // Reads the script that an input says.
 fn read(alloc: Global, input: &[u8]) -> Result<(List<Config>, List<Event>), RunError>
     ensures says { IfOk result (λ s. (tree : Data) × (json_of input.now ≡ Some tree) × (script_of tree ≡ Some s)) }
-    ensures not_json { result ≡ Err run_error.NotJson → json_of input.now ≡ None }
-    ensures refused { (r : Refusal) → result ≡ Err (run_error.Refused r)
-        → (tree : Data) × (json_of input.now ≡ Some tree) × (refusal_of_tree tree ≡ Some r) }
+    ensures fault { (f : Fault) → result ≡ Err (run_error.Fault f) → judged refusal_of_tree input.now ≡ Err f }
 {
     match read_script(alloc, input) {
         Ok(script) => Ok(script),
-        Err(ScriptError::NotJson) => Err(RunError::NotJson),
-        Err(ScriptError::NotScript) => Err(RunError::Refused(Refusal::NotScript)),
+        Err(ScriptError::NotJson) => Err(RunError::Fault(Fault::NotJson)),
+        Err(ScriptError::NotScript) => Err(RunError::Fault(Fault::NotScript)),
         Err(ScriptError::Memory) => Err(RunError::Memory),
     }
 }
 
 /// Runs a script.
 ///
-/// `Refused` has the first configuration that isn't valid, or else the first event, and `Memory` comes of want of memory.
+/// `Fault` has the first configuration that isn't valid, or else the first event, and `Memory` comes of want of memory.
 pub fn run_script(alloc: Global, configs: &[Config], script: &[Event]) -> Result<World, RunError>
     ensures ran { IfOk result (λ w. HasRunScript configs.now script.now w) }
     ensures accounted { IfOk result (λ w. IsAccounted configs.now w.log) }
     ensures valid { OnOk result (fault_of configs.now script.now ≡ None) }
-    ensures json { ¬ (result ≡ Err run_error.NotJson) }
-    ensures refused { (r : Refusal) → result ≡ Err (run_error.Refused r) → fault_of configs.now script.now ≡ Some r }
+    ensures fault { (f : Fault) → result ≡ Err (run_error.Fault f) → fault_of configs.now script.now ≡ Some f }
 {
     match World::run(alloc, configs, script) {
         Ok(world) => Ok(world),
-        Err(WorldError::Config(place)) => Err(RunError::Refused(Refusal::Config(place))),
-        Err(WorldError::Event(place)) => Err(RunError::Refused(Refusal::Event(place))),
+        Err(WorldError::Config(place)) => Err(RunError::Fault(Fault::Config(place))),
+        Err(WorldError::Event(place)) => Err(RunError::Fault(Fault::Event(place))),
         Err(WorldError::Memory) => Err(RunError::Memory),
     }
 }

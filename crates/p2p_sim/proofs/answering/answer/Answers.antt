@@ -4,7 +4,7 @@ use Rattle.serde_json.specs.Data.{Data}
 use Rattle.p2p_sim.specs.Input.{json_of}
 use Rattle.p2p_sim.specs.Outcomes.{HasStopped}
 use Rattle.p2p_sim.specs.Streams.{AddsFront}
-use Rattle.p2p_sim.specs.declared.program.Refusal.{Refusal}
+use Rattle.p2p_sim.specs.declared.fault.Fault.{Fault}
 use Rattle.p2p_sim.proofs.answering.answer.Goals as goal
 
 -- what holds of a call that failed
@@ -13,7 +13,7 @@ at-err (Ok x) e h = absurd (cc)
 at-err (Err x) e h = h
 
 -- the report was written in part
-stopped : {W : Type 0} (refusal_of : Data → Option Refusal) (Runs : Data → W → List ℕ → Type 0) (input : List ℕ) (held now : Option (List ℕ)) (tree : Data) (world : W) (report text : List ℕ) → json_of input ≡ Some tree → refusal_of tree ≡ None → Runs tree world report → text ≡ report → AddsFront held text now → HasStopped refusal_of Runs input held now
+stopped : {W : Type 0} (refusal_of : Data → Option Fault) (Runs : Data → W → List ℕ → Type 0) (input : List ℕ) (held now : Option (List ℕ)) (tree : Data) (world : W) (report text : List ℕ) → json_of input ≡ Some tree → refusal_of tree ≡ None → Runs tree world report → text ≡ report → AddsFront held text now → HasStopped refusal_of Runs input held now
 stopped refusal_of Runs input held now tree world report text reads accepted ran same front = record {
   text = text;
   due = rw (reads, accepted) (world, rw same ran);

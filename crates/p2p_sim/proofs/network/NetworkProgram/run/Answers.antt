@@ -1,6 +1,7 @@
 use Rattle.std.proofs.Common.{◌≡◌, None, ◌∙◌, sym, ap, ap₂, subst, arith}
 use Rattle.p2p_log_laws.specs.Accounted.{IsAccounted}
 use Rattle.p2p_sim_report.specs.ReportText.{report_text}
+use Rattle.p2p_sim.specs.Judged.{tree_or_refusal, tree_judged}
 use Rattle.p2p_sim.specs.Network.{HasRunScript, fault_of, tree_refusal, refusal_of}
 use Rattle.p2p_sim.proofs.network.NetworkProgram.run.Goals as goal
 
@@ -27,7 +28,8 @@ returns-in-Ok-clause-ok c =
       },
     )
 
-pub returns-in_err-world-clause-refused : goal.returns-in_err-world-clause-refused
-returns-in_err-world-clause-refused c r e =
+pub returns-in_err-world-clause-fault : goal.returns-in_err-world-clause-fault
+returns-in_err-world-clause-fault c f e =
     let says = c.in_ok-configs.ensures.says in
-    (says.0, says.1, ap tree_refusal says.2 ∙ (ap₂ fault_of (sym c.as_slice.ensures) (sym c.as_slice-2.ensures) ∙ c.run_script.ensures.refused r (grind arith)))
+    let refused = ap tree_refusal says.2 ∙ (ap₂ fault_of (sym c.as_slice.ensures) (sym c.as_slice-2.ensures) ∙ c.run_script.ensures.fault f (grind arith)) in
+    ap (tree_judged refusal_of) says.1 ∙ ap (tree_or_refusal says.0) refused
