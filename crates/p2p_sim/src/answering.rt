@@ -9,7 +9,8 @@ ghost use Rattle.p2p_sim.specs.declared.status.Status.TheVariants as status;
 use crate::fault::Fault;
 use crate::program::{Program, RunError};
 use crate::status::Status;
-use p2p_runtime::{Sink, write_all};
+use crate::writing::{write_text, write_world};
+use p2p_runtime::Sink;
 use std::alloc::Global;
 
 /// Runs an input, writes its report and leaves its world in `end`. Of an input that isn't run it writes one line.
@@ -30,13 +31,7 @@ pub fn answer<P: Program, K: Sink>(
     ensures end_kept { ¬ (result ≡ status.Ok) → end.new ≡ end.old }
 {
     match P::run(alloc, input) {
-        Ok((world, report)) => {
-            if write_all(sink, report.as_bytes()).is_err() {
-                return Status::WriteFault;
-            }
-            *end = Some(world);
-            Status::Ok
-        }
+        Ok((world, report)) => write_world(sink, report.as_str(), world, end),
         Err(RunError::Fault(cause)) => refuse(alloc, cause, sink),
         Err(RunError::Memory) => Status::Memory,
     }
@@ -53,8 +48,5 @@ fn refuse<K: Sink>(alloc: Global, cause: Fault, sink: &mut K) -> Status
     let Ok(line) = cause.line(alloc) else {
         return Status::Memory;
     };
-    if write_all(sink, line.as_bytes()).is_err() {
-        return Status::WriteFault;
-    }
-    cause.status()
+    write_text(sink, line.as_str(), cause.status())
 }

@@ -2,6 +2,7 @@
 ghost use Rattle.std.specs.Prelude.{◌≡◌, IfOk};
 ghost use Rattle.std.specs.String.{string_bytes};
 ghost use Rattle.p2p_sim.specs.Faults.{status_of, line_of};
+ghost use Rattle.p2p_sim.specs.Outcomes.{IsRefusal};
 ghost use Rattle.p2p_sim.specs.declared.fault.Fault.TheVariants as fault;
 
 use crate::status::Status;
@@ -23,7 +24,8 @@ pub enum Fault {
 impl Fault {
     /// The status that tells it.
     pub fn status(self) -> Status
-        ensures { result ≡ status_of self }
+        ensures told { result ≡ status_of self }
+        ensures refusal { IsRefusal result }
     {
         match self {
             Fault::NotJson => Status::NotJson,

@@ -15,6 +15,7 @@ pub mod status;
 mod threads;
 mod top;
 mod words;
+mod writing;
 
 pub use crate::commands::p2p_sim;
 pub use crate::fault::Fault;

@@ -6,8 +6,9 @@ ghost use Rattle.p2p_sim.specs.declared.status.Status.TheVariants as status;
 
 use crate::generator::running::run;
 use crate::status::Status;
+use crate::writing::write_world;
 use p2p_net::World;
-use p2p_runtime::{Sink, write_all};
+use p2p_runtime::Sink;
 use std::alloc::Global;
 
 /// Runs the first `count` events of the script of this seed, writes the summary and leaves the world in `end`.
@@ -30,9 +31,5 @@ pub fn summarize<K: Sink>(
     let Ok((world, text)) = run(alloc, count, seed) else {
         return Status::Memory;
     };
-    if write_all(sink, text.as_bytes()).is_err() {
-        return Status::WriteFault;
-    }
-    *end = Some(world);
-    Status::Ok
+    write_world(sink, text.as_str(), world, end)
 }

@@ -8,7 +8,8 @@ ghost use Rattle.p2p_sim.specs.ThreadText.{thread_text};
 use crate::status::Status;
 use crate::threads::running::run;
 pub use crate::threads::words::asked as asks_threads;
-use p2p_runtime::{Sink, write_all};
+use crate::writing::write_text;
+use p2p_runtime::Sink;
 use p2p_threads::Gate;
 use std::alloc::Global;
 use std::sync::Wait;
@@ -36,8 +37,5 @@ pub fn thread_report<R: Threads + Wait + Sync, K: Sink, G: Gate>(
     let Ok(text) = run(rt, alloc, n, m, gate) else {
         return Status::Memory;
     };
-    if write_all(sink, text.as_bytes()).is_err() {
-        return Status::WriteFault;
-    }
-    Status::Ok
+    write_text(sink, text.as_str(), Status::Ok)
 }
