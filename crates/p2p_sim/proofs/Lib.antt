@@ -1,5 +1,4 @@
 pub mod GeneratedValid
-pub mod JsonLaws
 pub mod Lines
 pub mod Messages
 pub mod Spelling

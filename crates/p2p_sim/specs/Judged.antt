@@ -1,7 +1,7 @@
 -- What an input is due: the tree that is run, or why none is.
 use Rattle.std.specs.Prelude.{ℕ, List, Option, Some, None, Result, Ok, Err}
 use Rattle.serde_json.specs.Data.{Data}
-use Rattle.p2p_sim.specs.Input.{json_of}
+use Rattle.p2p_sim_script.specs.Input.{json_of}
 use Rattle.p2p_sim.specs.Faults.{status_of}
 use Rattle.p2p_sim.specs.declared.fault.Fault.{Fault}
 use Rattle.p2p_sim.specs.declared.fault.Fault.TheVariants.{NotJson}

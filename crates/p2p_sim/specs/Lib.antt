@@ -1,7 +1,6 @@
 pub mod Codes
 pub mod Commands
 pub mod Faults
-pub mod Input
 pub mod Judged
 pub mod Network
 pub mod Outcomes

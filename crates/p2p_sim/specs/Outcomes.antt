@@ -1,7 +1,7 @@
 -- What a status tells of the source, the sink and the world.
 use Rattle.std.specs.Prelude.{◌≡◌, ℕ, ◌+◌, ◌≤◌, ◌↔◌, ◌⊎◌, List, [], length, Option, Some, None, IfSome, Result, Ok, Err}
 use Rattle.serde_json.specs.Data.{Data}
-use Rattle.p2p_sim.specs.Input.{json_of}
+use Rattle.p2p_sim_script.specs.Input.{json_of}
 use Rattle.p2p_sim.specs.Streams.{Takes, Adds, AddsFront}
 use Rattle.p2p_sim.specs.Faults.{status_of, line_of}
 use Rattle.p2p_sim.specs.Judged.{judged, status_due}

@@ -4,18 +4,18 @@ ghost use Rattle.std.specs.String.{string_bytes};
 ghost use Rattle.serde_json.specs.Data.{Data};
 ghost use Rattle.p2p_log_laws.specs.Accounted.{IsAccounted};
 ghost use Rattle.p2p_sim_script.specs.Form.{script_of};
-ghost use Rattle.p2p_sim.specs.Input.{json_of};
+ghost use Rattle.p2p_sim_script.specs.Input.{json_of};
 ghost use Rattle.p2p_sim.specs.Judged.{judged};
 ghost use Rattle.p2p_sim.specs.Network.{fault_of, refusal_of as refusal_of_tree, HasRunScript};
 ghost use Rattle.p2p_sim.specs.declared.program.RunError.TheVariants as run_error;
 
 use crate::fault::Fault;
 use crate::program::{Program, RunError};
-use crate::script::{ScriptError, read_script};
 use p2p_base::List;
 use p2p_log::{Config, Event};
 use p2p_net::{RunError as WorldError, World};
 use p2p_sim_report::write_report;
+use p2p_sim_script::{InputError, read_script_bytes};
 use std::alloc::Global;
 
 /// The program that runs a script on a network.
@@ -47,11 +47,11 @@ fn read(alloc: Global, input: &[u8]) -> Result<(List<Config>, List<Event>), RunE
     ensures says { IfOk result (λ s. (tree : Data) × (json_of input.now ≡ Some tree) × (script_of tree ≡ Some s)) }
     ensures fault { (f : Fault) → result ≡ Err (run_error.Fault f) → judged refusal_of_tree input.now ≡ Err f }
 {
-    match read_script(alloc, input) {
+    match read_script_bytes(alloc, input) {
         Ok(script) => Ok(script),
-        Err(ScriptError::NotJson) => Err(RunError::Fault(Fault::NotJson)),
-        Err(ScriptError::NotScript) => Err(RunError::Fault(Fault::NotScript)),
-        Err(ScriptError::Memory) => Err(RunError::Memory),
+        Err(InputError::NotJson) => Err(RunError::Fault(Fault::NotJson)),
+        Err(InputError::NotScript) => Err(RunError::Fault(Fault::NotScript)),
+        Err(InputError::Memory) => Err(RunError::Memory),
     }
 }
 

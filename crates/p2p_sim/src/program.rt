@@ -2,7 +2,7 @@
 ghost use Rattle.std.specs.Prelude.{◌≡◌, Some, None, Err, IfOk};
 ghost use Rattle.std.specs.String.{string_bytes};
 ghost use Rattle.serde_json.specs.Data.{Data};
-ghost use Rattle.p2p_sim.specs.Input.{json_of};
+ghost use Rattle.p2p_sim_script.specs.Input.{json_of};
 ghost use Rattle.p2p_sim.specs.Judged.{judged};
 
 use crate::fault::Fault;

@@ -4,7 +4,7 @@ ghost use Rattle.std.specs.Option.{option_map};
 ghost use Rattle.serde_json.specs.Data.{Data};
 ghost use Rattle.p2p_net.specs.World.{WorldView};
 ghost use Rattle.p2p_sim.specs.Commands.{AsksNoScript};
-ghost use Rattle.p2p_sim.specs.Input.{json_of};
+ghost use Rattle.p2p_sim_script.specs.Input.{json_of};
 ghost use Rattle.p2p_sim.specs.Network.{refusal_of, RunsTree};
 ghost use Rattle.p2p_sim.specs.Outcomes.{IsRefusal, IsSilent, HasRead, HasRefused, HasStopped, IsDecided};
 ghost use Rattle.p2p_sim.specs.ScriptWords.{AsksScript};

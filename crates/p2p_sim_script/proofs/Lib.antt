@@ -2,6 +2,7 @@ pub mod Drawing
 pub mod Events
 pub mod GeneratedRows
 pub mod GeneratedTrees
+pub mod JsonLaws
 pub mod KeyOrder
 pub mod Lists
 pub mod Names

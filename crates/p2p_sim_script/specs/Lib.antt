@@ -8,6 +8,7 @@ pub mod GeneratedActs
 pub mod GeneratedText
 pub mod GeneratedTree
 pub mod Gives
+pub mod Input
 pub mod Parts
 pub mod Presets
 pub mod Said

@@ -1,4 +1,4 @@
-//! Why a tree gives no script.
+//! Why bytes, a text or a tree give no script.
 ghost use Rattle.std.specs.Prelude.{◌≡◌};
 ghost use Rattle.p2p_sim_script.specs.declared.error.ScriptError.TheVariants.{Memory};
 ghost use Rattle.p2p_sim_script.specs.declared.error.ReadError.TheVariants.{NotJson, Memory as memory};
@@ -67,4 +67,18 @@ impl<T: Drop> From<AllocFailed<T>> for ReadError {
     fn from(_error: AllocFailed<T>) -> ReadError {
         ReadError::Memory
     }
+}
+
+/// Why bytes give no script.
+#[derive(Clone, Copy, PartialEq, Eq, Debug, Drop, Error)]
+pub enum InputError {
+    /// The bytes aren't UTF-8, or aren't JSON.
+    #[error("not JSON")]
+    NotJson,
+    /// The JSON hasn't the form of a script.
+    #[error("not a script")]
+    NotScript,
+    /// There was no memory for what the bytes say.
+    #[error("out of memory")]
+    Memory,
 }

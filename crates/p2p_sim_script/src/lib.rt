@@ -1,5 +1,5 @@
-//! Reads the JSON tree of a script: the configurations of its nodes, and its events. And makes a script of a number of events and a
-//! seed.
+//! Reads a script, of its bytes, of its text or of its JSON tree: the configurations of its nodes, and its events. And makes a script
+//! of a number of events and a seed.
 #![tactic(auto)]
 
 mod act;
@@ -11,6 +11,7 @@ mod each;
 mod error;
 mod event;
 pub mod generator;
+mod input;
 mod list;
 mod number;
 mod parts;
@@ -22,8 +23,9 @@ mod tracker_act;
 mod tree;
 mod value;
 
-pub use error::{ReadError, ScriptError};
+pub use error::{InputError, ReadError, ScriptError};
 pub use generator::generated_script;
 pub use generator::text::generated;
+pub use input::read_script_bytes;
 pub use script::read_script;
 pub use text::read_script_text;

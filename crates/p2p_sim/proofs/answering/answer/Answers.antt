@@ -1,6 +1,6 @@
 use Rattle.std.proofs.Common.{◌≡◌, ℕ, List, Option, Some, None}
 use Rattle.serde_json.specs.Data.{Data}
-use Rattle.p2p_sim.specs.Input.{json_of}
+use Rattle.p2p_sim_script.specs.Input.{json_of}
 use Rattle.p2p_sim.specs.Outcomes.{HasStopped}
 use Rattle.p2p_sim.specs.Streams.{AddsFront}
 use Rattle.p2p_sim.specs.declared.fault.Fault.{Fault}

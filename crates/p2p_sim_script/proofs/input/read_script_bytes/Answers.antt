@@ -4,9 +4,9 @@ use Rattle.std.specs.Str.{IsUtf8}
 use Rattle.serde_json.specs.Data.{Data}
 use Rattle.serde_json.specs.Read.{read}
 use Rattle.p2p_sim_script.specs.Form.{script_of}
-use Rattle.p2p_sim.specs.Input.{json_of}
-use Rattle.p2p_sim.proofs.JsonLaws.{json_of-none, json_said, json_unsaid}
-use Rattle.p2p_sim.proofs.script.read_script.Goals as goal
+use Rattle.p2p_sim_script.specs.Input.{json_of}
+use Rattle.p2p_sim_script.proofs.JsonLaws.{json_of-none, json_said, json_unsaid}
+use Rattle.p2p_sim_script.proofs.input.read_script_bytes.Goals as goal
 
 module _ {A E : Type 0} (says : Data → Option A) (input text : List ℕ) (same : text ≡ input) (utf8 : IsUtf8 input) (err : E) where
   said_in : (o : Option A) → option_map says (read text) ≡ Some o → IfOk (ok_or o err) (λ s. (tree : Data) × (json_of input ≡ Some tree) × (says tree ≡ Some s))

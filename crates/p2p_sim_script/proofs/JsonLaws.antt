@@ -5,7 +5,7 @@ use Rattle.std.specs.Str.{IsUtf8, is_utf8}
 use Rattle.std.proofs.lemmas.Str.{is_utf8-from_IsUtf8, IsUtf8-from_is_utf8}
 use Rattle.serde_json.specs.Data.{Data}
 use Rattle.serde_json.specs.Read.{read}
-use Rattle.p2p_sim.specs.Input.{json_of}
+use Rattle.p2p_sim_script.specs.Input.{json_of}
 
 -- a value that is none where the test holds, and else nothing
 cond-none : (b : Bool) (o : Option Data) → (b ≡ true → o ≡ None) → cond b o None ≡ None

@@ -1,4 +1,4 @@
--- The JSON that the input is.
+-- The JSON that an input is.
 use Rattle.std.specs.Prelude.{ℕ, List, Option, None, if◌then◌else◌}
 use Rattle.std.specs.Str.{is_utf8}
 use Rattle.serde_json.specs.Data.{Data}
