@@ -7,7 +7,5 @@ pub mod Outcomes
 pub mod ScriptWords
 pub mod Streams
 pub mod Summed
-pub mod Taken
-pub mod ThreadText
 pub mod ThreadWords
 pub mod Words

@@ -10,10 +10,10 @@ ghost use Rattle.p2p_sim.specs.Outcomes.{IsRefusal, IsSilent, HasRead, HasWritte
 ghost use Rattle.p2p_sim.specs.ScriptWords.{AsksScript};
 ghost use Rattle.p2p_sim.specs.Streams.{IsAllOf, OfAll, HasCounted};
 ghost use Rattle.p2p_sim.specs.Summed.{HasGenerated};
-ghost use Rattle.p2p_sim.specs.ThreadText.{thread_text};
 ghost use Rattle.p2p_sim.specs.ThreadWords.{AsksThreads};
 ghost use Rattle.p2p_sim.specs.Words.{IsRunCommand};
 ghost use Rattle.p2p_sim.specs.declared.status.Status.TheVariants as status;
+ghost use Rattle.p2p_threads.specs.ThreadText.{thread_text};
 
 use crate::reading::LIMIT;
 use crate::status::Status;

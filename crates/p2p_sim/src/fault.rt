@@ -41,10 +41,7 @@ impl Fault {
     {
         match self {
             Fault::NotJson => String::from_str(alloc, "{\"error\":\"json\"}\n"),
-            Fault::NotScript => String::from_str(
-                alloc,
-                "{\"error\":\"script\"}\n",
-            ),
+            Fault::NotScript => String::from_str(alloc, "{\"error\":\"script\"}\n"),
             Fault::Config(i) => config_line(alloc, i),
             Fault::Event(i) => event_line(alloc, i),
         }

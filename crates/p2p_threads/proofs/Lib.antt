@@ -1,4 +1,6 @@
 pub mod Histories
+pub mod Lines
+pub mod Messages
 pub mod Places
 pub mod Totals
 pub mod Sights

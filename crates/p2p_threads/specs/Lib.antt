@@ -7,4 +7,6 @@ pub mod Limiter
 pub mod Mailbox
 pub mod Messenger
 pub mod Sending
+pub mod TakenOf
 pub mod Takes
+pub mod ThreadText

@@ -3,14 +3,13 @@ ghost use Rattle.std.specs.Prelude.{◌≡◌, ◌≤◌, IfSome, IfNone};
 ghost use Rattle.p2p_sim.specs.Outcomes.{HasWritten};
 ghost use Rattle.p2p_sim.specs.Streams.{HasCounted};
 ghost use Rattle.p2p_sim.specs.declared.status.Status.TheVariants as status;
-ghost use Rattle.p2p_sim.specs.ThreadText.{thread_text};
+ghost use Rattle.p2p_threads.specs.ThreadText.{thread_text};
 
 use crate::status::Status;
-use crate::threads::running::run;
 pub use crate::threads::words::asked as asks_threads;
 use crate::writing::write_text;
 use p2p_runtime::Sink;
-use p2p_threads::Gate;
+use p2p_threads::{Gate, run_senders};
 use std::alloc::Global;
 use std::sync::Wait;
 use std::thread::Threads;
@@ -34,7 +33,7 @@ pub fn thread_report<R: Threads + Wait + Sync, K: Sink, G: Gate>(
     ensures faults { HasCounted (result ≡ status.WriteFault) (K.faults_of sink.old) (K.faults_of sink.new) }
     ensures unwritten { result ≡ status.Memory → sink.new ≡ sink.old }
 {
-    let Ok(text) = run(rt, alloc, n, m, gate) else {
+    let Ok(text) = run_senders(rt, alloc, n, m, gate) else {
         return Status::Memory;
     };
     write_text(sink, text.as_str(), Status::Ok)

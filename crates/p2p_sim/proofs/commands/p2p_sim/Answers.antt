@@ -1,6 +1,6 @@
 use Rattle.std.proofs.Common.{ℕ, subst, refl}
 use Rattle.p2p_sim.specs.Outcomes.{HasWritten}
-use Rattle.p2p_sim.specs.ThreadText.{thread_text}
+use Rattle.p2p_threads.specs.ThreadText.{thread_text}
 use Rattle.p2p_sim.proofs.Spelling.{same_asked, not_both}
 use Rattle.p2p_sim.proofs.commands.p2p_sim.Goals as goal
 

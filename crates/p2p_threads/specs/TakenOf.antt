@@ -1,6 +1,6 @@
 -- What is taken of each sender.
 use Rattle.std.specs.Prelude.{◌≡◌, ℕ, zero, suc, ◌==◌, ◌<◌, List, filter, map}
-use Rattle.p2p_sim.specs.ThreadText.{below, line_onto}
+use Rattle.p2p_threads.specs.ThreadText.{below, line_onto}
 use Rattle.p2p_threads.specs.declared.numbered.Numbered.{Numbered}
 
 -- the numbers of a sender among the messages, in order

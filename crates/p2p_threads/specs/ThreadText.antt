@@ -1,4 +1,4 @@
--- The text of the command: a line for each sender. `f_onto out x` is what stands in a text once x is written at its end.
+-- The text of what senders sent: a line for each of them. `f_onto out x` is what stands in a text once x is written at its end.
 use Rattle.std.specs.Prelude.{ℕ, zero, suc, List, [], ◌∷◌, ◌++◌, codes, decimal}
 
 -- the numbers from 0 on, below n
@@ -24,6 +24,6 @@ abbrev pub lines_onto : List ℕ → ℕ → ℕ → List ℕ
 lines_onto out zero m = out
 lines_onto out (suc n) m = line_onto (lines_onto out n m) m n (below m)
 
--- the text of `threads n m`
+-- the text of n senders of m messages each
 unfoldable pub thread_text : ℕ → ℕ → List ℕ
 thread_text n m = lines_onto [] n m

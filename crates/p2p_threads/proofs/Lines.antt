@@ -3,8 +3,8 @@ use Rattle.std.proofs.Common.{◌≡◌, ℕ, zero, suc, ◌<◌, ◌≤◌, Lis
 use Rattle.std.specs.Prelude.{String}
 use Rattle.std.specs.String.{string_bytes}
 use Rattle.p2p_threads.specs.declared.numbered.Numbered.{Numbered}
-use Rattle.p2p_sim.specs.ThreadText.{below, line_onto, lines_onto, thread_text}
-use Rattle.p2p_sim.specs.Taken.{taken_of, HaveAll, taken_onto}
+use Rattle.p2p_threads.specs.ThreadText.{below, line_onto, lines_onto, thread_text}
+use Rattle.p2p_threads.specs.TakenOf.{taken_of, HaveAll, taken_onto}
 
 pub all_lines : (out : List ℕ) (messages : List Numbered) (n m : ℕ) → HaveAll n m messages → taken_onto out messages n m ≡ lines_onto out n m
 all_lines out messages zero m all = refl

@@ -1,13 +1,17 @@
-//! The run of the command.
+//! Senders over a mailbox of their own, from its making to what is taken of it, as text.
 ghost use Rattle.std.specs.Prelude.{◌≡◌, ◌≤◌, ◌*◌, IfOk};
 ghost use Rattle.std.specs.String.{string_bytes};
-ghost use Rattle.p2p_sim.specs.Taken.{HaveAll};
-ghost use Rattle.p2p_sim.specs.ThreadText.{thread_text};
+ghost use Rattle.p2p_threads.specs.TakenOf.{HaveAll};
+ghost use Rattle.p2p_threads.specs.ThreadText.{thread_text};
 
-use crate::threads::draining::drained;
-use crate::threads::text::text_of;
+use crate::draining::drained;
+use crate::gate::Gate;
+use crate::mailbox::MailboxObject;
+use crate::numbered::Numbered;
+use crate::sending::senders;
+use crate::shared::Shared;
+use crate::text::text_of;
 use p2p_base::Mailbox;
-use p2p_threads::{Gate, MailboxObject, Numbered, Shared, senders};
 use std::alloc::{AllocError, Global};
 use std::sync::Wait;
 use std::thread::Threads;
@@ -34,10 +38,12 @@ fn sent<R: Threads + Wait + Sync, G: Gate>(
     }
 }
 
-/// Runs `n` sender threads of `m` messages each over a shared mailbox, closes it, and gives the text of what is taken then.
+/// Runs `n` sender threads of `m` messages each over a shared mailbox, closes it, and gives the text of what is taken then:
+/// a line for each sender, with how many calls it made and the numbers that were taken of it. `n` is 1 to 64, and `m` 1 to
+/// 10,000.
 ///
 /// `Err` comes of want of memory.
-pub fn run<R: Threads + Wait + Sync, G: Gate>(
+pub fn run_senders<R: Threads + Wait + Sync, G: Gate>(
     rt: &R,
     alloc: Global,
     n: u32,

@@ -1,7 +1,7 @@
 use Rattle.std.proofs.Common.{◌≡◌, ◌≤◌, []}
 use Rattle.std.specs.String.{string_bytes}
-use Rattle.p2p_sim.specs.Taken.{taken_onto}
-use Rattle.p2p_sim.proofs.threads.text.lines.Given as goal
+use Rattle.p2p_threads.specs.TakenOf.{taken_onto}
+use Rattle.p2p_threads.proofs.text.lines.Given as goal
 
 abbrev pub invariant-loop-sender : goal.invariant-loop-sender
 invariant-loop-sender l = record {

@@ -1,11 +1,11 @@
-//! The text of the command.
+//! The text of what the senders sent.
 ghost use Rattle.std.specs.Prelude.{◌≡◌, ◌++◌, [], decimal, IfOk, OnOk};
 ghost use Rattle.std.specs.String.{string_bytes};
-ghost use Rattle.p2p_sim.specs.ThreadText.{more_onto, numbers_onto, line_onto, thread_text};
-ghost use Rattle.p2p_sim.specs.Taken.{taken_of, HaveAll, taken_onto};
+ghost use Rattle.p2p_threads.specs.ThreadText.{more_onto, numbers_onto, line_onto, thread_text};
+ghost use Rattle.p2p_threads.specs.TakenOf.{taken_of, HaveAll, taken_onto};
 
+use crate::numbered::Numbered;
 use itoa::Buffer;
-use p2p_threads::Numbered;
 use std::alloc::{AllocError, Global};
 
 fn put(out: &mut String, text: &str) -> Result<(), AllocError>
@@ -83,8 +83,13 @@ fn lines(alloc: Global, messages: &[Numbered], n: u32, m: u32) -> Result<String,
     Ok(out)
 }
 
-/// The text of the command, where the messages are all that `n` senders sent of `m` each.
-pub fn text_of(alloc: Global, messages: &[Numbered], n: u32, m: u32) -> Result<String, AllocError>
+/// The text, where the messages are all that `n` senders sent of `m` each.
+pub(crate) fn text_of(
+    alloc: Global,
+    messages: &[Numbered],
+    n: u32,
+    m: u32,
+) -> Result<String, AllocError>
     requires { HaveAll n m messages.now }
     ensures { IfOk result (λ text. string_bytes text ≡ thread_text n m) }
 {

@@ -2,9 +2,9 @@ use Rattle.std.proofs.Common.{◌≡◌, ℕ, ◌*◌, List, ◌++◌, length, r
 use Rattle.p2p_base.specs.Queue.{Queue, empty_queue}
 use Rattle.p2p_threads.specs.Sending.{Made, joined}
 use Rattle.p2p_threads.specs.declared.numbered.Numbered.{Numbered}
-use Rattle.p2p_sim.specs.Taken.{taken_of, HaveAll}
-use Rattle.p2p_sim.proofs.Messages.{Call, left, all_sent}
-use Rattle.p2p_sim.proofs.threads.running.sent.Goals as goal
+use Rattle.p2p_threads.specs.TakenOf.{taken_of, HaveAll}
+use Rattle.p2p_threads.proofs.Messages.{Call, left, all_sent}
+use Rattle.p2p_threads.proofs.running.sent.Goals as goal
 
 pub returns-in-Ok : goal.returns-in-Ok
 returns-in-Ok g c =

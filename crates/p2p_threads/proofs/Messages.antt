@@ -17,8 +17,8 @@ use Rattle.p2p_threads.specs.declared.mailbox.MailboxReply.{MailboxReply}
 use Rattle.p2p_threads.specs.declared.numbered.Numbered.{Numbered}
 use Rattle.p2p_threads.proofs.Parts.{within-wider}
 use Rattle.p2p_threads.proofs.Places.{times-append}
-use Rattle.p2p_sim.specs.ThreadText.{below}
-use Rattle.p2p_sim.specs.Taken.{taken_of, HaveAll}
+use Rattle.p2p_threads.specs.ThreadText.{below}
+use Rattle.p2p_threads.specs.TakenOf.{taken_of, HaveAll}
 
 abbrev pub Call : Type 0
 Call = MailboxCall Numbered × MailboxReply Numbered

@@ -1,5 +1,5 @@
 use Rattle.std.proofs.Common.{◌≡◌, ◌++◌, length}
-use Rattle.p2p_sim.proofs.threads.draining.drained.Given as goal
+use Rattle.p2p_threads.proofs.draining.drained.Given as goal
 
 abbrev pub invariant-loop-message : goal.invariant-loop-message
 invariant-loop-message l = l.messages.items ++ l.mailbox.items ≡ l.fn.mailbox.items
