@@ -1,6 +1,6 @@
--- The words of the command.
-use Rattle.std.specs.Prelude.{◌≡◌, ℕ, ◌*◌, ◌≤◌, List, [], ◌∷◌, map, codes, decimal, String}
-use Rattle.std.specs.String.{string_bytes}
+-- The words of the command `threads`.
+use Rattle.std.specs.Prelude.{ℕ, ◌*◌, ◌≤◌, List, codes, String}
+use Rattle.p2p_sim.specs.Words.{Spells}
 
 -- so many senders, and so many messages of each, are within their bounds
 pub record AreWithin (n m : ℕ) : Type 0 where
@@ -12,5 +12,5 @@ pub record AreWithin (n m : ℕ) : Type 0 where
 
 -- the words are `threads`, the number of senders and the number of messages of each
 pub record AsksThreads {A : Type 0} (words : List (String A)) (n m : ℕ) : Type 0 where
-  pub says : map string_bytes words ≡ codes "threads" ∷ decimal n ∷ decimal m ∷ []
+  pub says : Spells words (codes "threads") n m
   pub within : AreWithin n m

@@ -2,7 +2,7 @@
 ghost use Rattle.std.specs.Prelude.{ℕ, ◌↔◌, IsTrue, IfSome, IfNone};
 ghost use Rattle.p2p_sim.specs.ScriptWords.{AsksScript, IsLength};
 
-use crate::words::number_of;
+use crate::words::numbers_after;
 
 // The most events of a script.
 const EVENTS: u64 = 100_000;
@@ -19,16 +19,7 @@ pub fn asks_script(words: &[String]) -> Option<(u64, u64)>
     ensures some { IfSome result (λ a. AsksScript words.now a.0 a.1) }
     ensures none { IfNone result ((count seed : ℕ) → ¬ AsksScript words.now count seed) }
 {
-    let [command, events, seeds] = words else {
-        return None;
-    };
-    if command.as_str() != "gen" {
-        return None;
-    }
-    let Some(count) = number_of(events.as_str()) else {
-        return None;
-    };
-    let Some(seed) = number_of(seeds.as_str()) else {
+    let Some((count, seed)) = numbers_after("gen", words) else {
         return None;
     };
     if !is_length(count) {

@@ -2,7 +2,7 @@
 ghost use Rattle.std.specs.Prelude.{ℕ, ◌↔◌, IfSome, IfNone, IsTrue};
 ghost use Rattle.p2p_sim.specs.ThreadWords.{AsksThreads, AreWithin};
 
-use crate::words::number_of;
+use crate::words::numbers_after;
 
 // The most sender threads.
 const SENDERS: u64 = 64;
@@ -25,16 +25,7 @@ pub fn asked(words: &[String]) -> Option<(u32, u32)>
     ensures some { IfSome result (λ a. AsksThreads words.now a.0 a.1) }
     ensures none { IfNone result ((n m : ℕ) → ¬ AsksThreads words.now n m) }
 {
-    let [command, senders, numbers] = words else {
-        return None;
-    };
-    if command.as_str() != "threads" {
-        return None;
-    }
-    let Some(n) = number_of(senders.as_str()) else {
-        return None;
-    };
-    let Some(m) = number_of(numbers.as_str()) else {
+    let Some((n, m)) = numbers_after("threads", words) else {
         return None;
     };
     if !is_within(n, m) {

@@ -1,22 +1,14 @@
-use Rattle.std.proofs.Common.{rules, ◌≡◌, ◌≤◌, ℕ, [], ◌∷◌, length, codes, decimal, true, false, sym, ap, ◌∙◌, arith}
-use Rattle.std.specs.String.{string_bytes}
-use Rattle.p2p_sim.proofs.Spelling.{three_are, one_asked, asks_for}
+use Rattle.std.proofs.Common.{◌≡◌, ℕ, true, false, codes, sym, ◌∙◌, arith, subst}
+use Rattle.p2p_sim.specs.ThreadWords.{AreWithin}
+use Rattle.p2p_sim.proofs.Spelling.{spell_same}
 use Rattle.p2p_sim.proofs.threads.words.asked.Goals as goal
 
 pub returns-then-not-is_within-clause-none : goal.returns-then-not-is_within-clause-none
 returns-then-not-is_within-clause-none c = λ n m asks.
-    let three = three_are c.args.words.now c.command-item.result c.senders-item.result c.numbers-item.result (omega (arith, c.in-len3.len_at_least)) (omega (arith, c.in-len3.len_below)) c.command-item.is c.senders-item.is c.numbers-item.is in
-    let spells : string_bytes c.senders-item.result ≡ decimal c.in-Some.n = sym c.as_str-2.ensures.value ∙ c.in-Some.ensures.some in
-    let spells2 : string_bytes c.numbers-item.result ≡ decimal c.in-Some-number_of.m = sym c.as_str-3.ensures.value ∙ c.in-Some-number_of.ensures.some in
-    let within = one_asked c.args.words.now c.command-item.result c.senders-item.result c.numbers-item.result c.in-Some.n c.in-Some-number_of.m n m three spells spells2 (omega arith) (omega arith) asks in
-    let yes = c.is_within.ensures.1 within in
+    let within = asks.within in
+    let fits = c.in-Some.ensures.fits in
+    let same = spell_same c.args.words.now (codes "threads") n m c.in-Some.n c.in-Some.m (omega (arith, within.senders)) (omega (arith, within.messages)) fits.0 fits.1 asks.says c.in-Some.ensures.some in
+    let moved = subst (λ (k : ℕ). AreWithin k c.in-Some.m) same.0 (subst (λ (l : ℕ). AreWithin n l) same.1 within) in
+    let yes = c.is_within.ensures.1 moved in
     let no : true ≡ false = sym yes ∙ c.if-not-is_within.true in
     absurd (cc (no))
-
-pub returns-clause-some : goal.returns-clause-some
-returns-clause-some c =
-    let three = three_are c.args.words.now c.command-item.result c.senders-item.result c.numbers-item.result (omega (arith, c.in-len3.len_at_least)) (omega (arith, c.in-len3.len_below)) c.command-item.is c.senders-item.is c.numbers-item.is in
-    let spells : string_bytes c.senders-item.result ≡ decimal c.in-Some.n = sym c.as_str-2.ensures.value ∙ c.in-Some.ensures.some in
-    let spells2 : string_bytes c.numbers-item.result ≡ decimal c.in-Some-number_of.m = sym c.as_str-3.ensures.value ∙ c.in-Some-number_of.ensures.some in
-    let command : c.as_str.result.now ≡ codes "threads" = search rules in
-    asks_for c.args.words.now c.command-item.result c.senders-item.result c.numbers-item.result c.in-Some.n c.in-Some-number_of.m three (sym c.as_str.ensures.value ∙ command) spells spells2 (search rules)
