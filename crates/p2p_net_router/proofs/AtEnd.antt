@@ -65,7 +65,7 @@ released_over configs log e r desk actor less names entry place conn key items s
     in
     subst (λ (a : Routes Key). StandsOver configs (log ++ e ∷ []) (moved_to r desk a less names) (items ++ x ∷ [])) (sym actor_is)
     (moved_over configs log e r desk now less names items (items ++ x ∷ []) s g.no_step g.no_channel g.no_turn
-    (closed_routes links key (link_of key_cmp links key) refl) refl refl
+    (closed_routes links key (link_of key_cmp links key) refl) refl refl refl
     (ap (λ (d : Desk Key). is_bound d.binding) desk_is ∙ bound_appended r.messenger.binding _)
     (λ k h. subst (λ (d : Desk Key). HasPlaces k d.binding) (sym desk_is) (places_appended k r.messenger.binding _ h))
     ended

@@ -21,6 +21,7 @@ use Rattle.p2p_net_router.specs.Stands.{StandsOver, StandsFor, HasPlaces, IsBesi
 use Rattle.p2p_net_router.specs.declared.router.Router.{Router}
 use Rattle.p2p_net_router.proofs.Beside.{moved_to, holds_same, stands_moved}
 use Rattle.p2p_net_router.proofs.Aside.{line_after, takes_alone}
+use Rattle.p2p_net_router.proofs.Indexing.{same_index}
 
 -- a kept router is the old one with other parts
 moved_to-kept : (old new : Router) → AreKept old new → moved_to old new.messenger new.actor new.peers new.names ≡ new
@@ -50,6 +51,7 @@ over_kept configs log old new items more s kept h =
       places = subst (λ m. HasPlaces (router_capacity configs log n) m.binding) (sym kept.messenger) s.places;
       ended = kept.ended (is_ended log n) s.ended;
       works = kept.works ∙ s.works;
+      indexed = same_index old.actor new.actor kept.routes kept.owners s.indexed;
     })
 
 batched :
@@ -69,7 +71,7 @@ batched configs log e old new batch taken s b kept is holds takes ends away =
     λ q own. line_after log e (map name_of batch) q gone (away q own)
     in
     subst (StandsFor configs (log ++ e ∷ [])) same
-    (stands_moved configs log e old new.messenger new.actor new.peers new.names (live log) s b kept.routes kept.subscriptions kept.works
+    (stands_moved configs log e old new.messenger new.actor new.peers new.names (live log) s b kept.routes kept.subscriptions kept.works kept.owners
     (ap (λ m. is_bound m.binding) kept.messenger) (λ k places. subst (λ m. HasPlaces k m.binding) (sym kept.messenger) places)
     (kept.ended (is_ended log n) s.ended)
     (holds_same size moved (filter (stays (map name_of batch)) (live log)) (live (log ++ e ∷ [])) h lines))

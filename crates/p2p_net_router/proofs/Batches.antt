@@ -64,7 +64,7 @@ batch_beside n conn size items q apart high_away low_away =
     ∙ line_beside size (queue.High n conn) q items high apart refl high_away))
 
 pub AreKept-refl : (r : Router) → AreKept r r
-AreKept-refl r = record { number = refl; messenger = refl; channels = refl; peers = refl; numbers = refl; subscriptions = refl; routes = refl; ended = λ f h. h; works = refl }
+AreKept-refl r = record { number = refl; messenger = refl; channels = refl; peers = refl; numbers = refl; subscriptions = refl; routes = refl; ended = λ f h. h; works = refl; owners = refl }
 
 pub AreKept-trans : (a b c : Router) → AreKept a b → AreKept b c → AreKept a c
 AreKept-trans a b c f g = record {
@@ -77,6 +77,7 @@ AreKept-trans a b c f g = record {
   routes = g.routes ∙ f.routes;
   ended = λ t h. g.ended t (f.ended t h);
   works = g.works ∙ f.works;
+  owners = g.owners ∙ f.owners;
 }
 
 -- ---- one more frame
@@ -222,4 +223,5 @@ AreKept-taken old new rest links ends = record {
   routes = links;
   ended = ends;
   works = ap (λ (r : Router). r.actor.failed) rest;
+  owners = ap (λ (r : Router). r.actor.peers) rest;
 }

@@ -31,6 +31,7 @@ use Rattle.p2p_net_router.specs.Stands.{RoutesNothing, StandsOver, StandsFor, Ha
 use Rattle.p2p_net_router.specs.declared.router.Router.{Router}
 use Rattle.p2p_net_router.specs.declared.name.Name.{Name}
 use Rattle.p2p_net_router.proofs.Endings.{ended_beside}
+use Rattle.p2p_net_router.proofs.Indexing.{same_index}
 
 -- the router with another mailbox, other relays, peers and names
 abbrev pub moved_to : Router → Desk Key → Routes Key → BTreeMap ℕ Key → Board Name → Router
@@ -50,12 +51,12 @@ holds_same size r items more h same = record {
 pub moved_over :
     (configs : List Config) (log : List Entry) (e : Entry) (r : Router) (desk : Desk Key) (actor : Routes Key) (peers : BTreeMap ℕ Key) (names : Board Name) (items more : List Envelope)
     → StandsOver configs log r items → RoutesNothing log e r.number → registers_at configs r.number e.event.act ≡ [] → turns r.number e.event.act ≡ false
-    → routes_in actor.links ≡ routes_in r.actor.links → actor.subscriptions ≡ r.actor.subscriptions → actor.failed ≡ r.actor.failed
+    → routes_in actor.links ≡ routes_in r.actor.links → actor.subscriptions ≡ r.actor.subscriptions → actor.failed ≡ r.actor.failed → actor.peers ≡ r.actor.peers
     → is_bound desk.binding ≡ is_bound r.messenger.binding → ((k : ℕ) → HasPlaces k r.messenger.binding → HasPlaces k desk.binding)
     → AreEnded (is_ended (log ++ e ∷ []) r.number) peers actor.links
     → Holds (mailbox_size_at configs r.number) (moved_to r desk actor peers names) more
     → StandsOver configs (log ++ e ∷ []) (moved_to r desk actor peers names) more
-moved_over configs log e r desk actor peers names items more s no_step no_channel no_turn links subs works bound places ended h =
+moved_over configs log e r desk actor peers names items more s no_step no_channel no_turn links subs works owners bound places ended h =
     let n = r.number in
     let same = channels-kept configs log e n no_channel in
     let up = is_up-kept log e n no_turn in
@@ -70,18 +71,19 @@ moved_over configs log e r desk actor peers names items more s no_step no_channe
           (places (router_capacity configs log n) s.places);
       ended = ended;
       works = works ∙ s.works;
+      indexed = same_index r.actor actor links owners s.indexed;
     }
 
 pub stands_moved :
     (configs : List Config) (log : List Entry) (e : Entry) (r : Router) (desk : Desk Key) (actor : Routes Key) (peers : BTreeMap ℕ Key) (names : Board Name) (items : List Envelope)
     → StandsOver configs log r items → IsBeside configs log e r.number
-    → routes_in actor.links ≡ routes_in r.actor.links → actor.subscriptions ≡ r.actor.subscriptions → actor.failed ≡ r.actor.failed
+    → routes_in actor.links ≡ routes_in r.actor.links → actor.subscriptions ≡ r.actor.subscriptions → actor.failed ≡ r.actor.failed → actor.peers ≡ r.actor.peers
     → is_bound desk.binding ≡ is_bound r.messenger.binding → ((k : ℕ) → HasPlaces k r.messenger.binding → HasPlaces k desk.binding)
     → AreEnded (is_ended log r.number) peers actor.links
     → Holds (mailbox_size_at configs r.number) (moved_to r desk actor peers names) (live (log ++ e ∷ []))
     → StandsFor configs (log ++ e ∷ []) (moved_to r desk actor peers names)
-stands_moved configs log e r desk actor peers names items s b links subs works bound places ended h =
-    moved_over configs log e r desk actor peers names items (live (log ++ e ∷ [])) s b.no_step b.no_channel b.no_turn links subs works bound places
+stands_moved configs log e r desk actor peers names items s b links subs works owners bound places ended h =
+    moved_over configs log e r desk actor peers names items (live (log ++ e ∷ [])) s b.no_step b.no_channel b.no_turn links subs works owners bound places
     (ended_beside log e r.number peers actor.links b.no_end ended) h
 
 -- what stands in the router's queues is what stood there
@@ -93,7 +95,7 @@ pub stands_beside :
     (configs : List Config) (log : List Entry) (e : Entry) (r : Router)
     → StandsFor configs log r → IsBeside configs log e r.number → LinesStay log e r.number → StandsFor configs (log ++ e ∷ []) r
 stands_beside configs log e r s b lines =
-    stands_moved configs log e r r.messenger r.actor r.peers r.names (live log) s b refl refl refl refl (λ k h. h) s.ended
+    stands_moved configs log e r r.messenger r.actor r.peers r.names (live log) s b refl refl refl refl refl (λ k h. h) s.ended
     (holds_same (mailbox_size_at configs r.number) r (live log) (live (log ++ e ∷ [])) s.holds lines)
 
 -- ---- lines that an entry leaves alone
@@ -163,5 +165,5 @@ readied_stands configs log e r desk peers names place conn key s b g bound place
     ap (filter (stands_in q)) whole
     ∙ line_readied q (live log) (length log) g.before g.after (queue.Router r.number, item.Ready conn key) place g.long (g.away q own).0 (g.away q own).1
     in
-    stands_moved configs log e r desk r.actor peers names (live log) s b refl refl refl bound places ended
+    stands_moved configs log e r desk r.actor peers names (live log) s b refl refl refl refl bound places ended
     (holds_same (mailbox_size_at configs r.number) (moved_to r desk r.actor peers names) (live log ++ x ∷ []) (live (log ++ e ∷ [])) h lines)

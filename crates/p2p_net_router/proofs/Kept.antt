@@ -52,4 +52,5 @@ stands_kept configs log entry event a r desk names row s at is other none no_hal
       places = subst (λ k. HasPlaces k desk.binding) (ap (λ l. mailbox_size_at configs n + sum_capacities l) (sym same)) places;
       ended = ended_beside log e n r.peers r.actor.links (λ conn. ends_none-act log e n conn a is (no_half conn)) s.ended;
       works = s.works;
+      indexed = s.indexed;
     }

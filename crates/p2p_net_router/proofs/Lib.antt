@@ -15,12 +15,14 @@ pub mod Ended
 pub mod Endings
 pub mod First
 pub mod Idle
+pub mod Indexing
 pub mod Kept
 pub mod Leaving
 pub mod Linking
 pub mod Listed
 pub mod Noting
 pub mod Numbers
+pub mod OnePeer
 pub mod Others
 pub mod Over
 pub mod Overwritten

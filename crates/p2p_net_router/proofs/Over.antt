@@ -36,6 +36,7 @@ over_same configs log r items more s lines = record {
   places = s.places;
   ended = s.ended;
   works = s.works;
+  indexed = s.indexed;
 }
 
 -- the router stands for the log with an entry that leaves these items in its queues
@@ -45,7 +46,7 @@ pub over_beside :
     → ((q : Queue) → is_routers r.number q ≡ true → filter (stands_in q) (live (log ++ e ∷ [])) ≡ filter (stands_in q) items)
     → StandsFor configs (log ++ e ∷ []) r
 over_beside configs log e r items s b lines =
-    stands_moved configs log e r r.messenger r.actor r.peers r.names items s b refl refl refl refl (λ k h. h) s.ended
+    stands_moved configs log e r r.messenger r.actor r.peers r.names items s b refl refl refl refl refl (λ k h. h) s.ended
     (holds_same (mailbox_size_at configs r.number) r items (live (log ++ e ∷ [])) s.holds lines)
 
 -- where these go by the entry, which puts nothing
@@ -93,4 +94,5 @@ over_rebound configs log r desk names items more s bound places h = record {
   places = places _ s.places;
   ended = s.ended;
   works = s.works;
+  indexed = s.indexed;
 }

@@ -75,6 +75,7 @@ AreKept-written size r conn i key l names k =
           (ends_set f r.peers (with_link key_cmp links key one) key one false (with_items l.relay.low (drop few l.relay.low.items)) (own_link links key l one k.link) refl
           (ends_set f r.peers links key l true (with_items l.relay.high (drop i l.relay.high.items)) k.link refl h));
       works = refl;
+      owners = refl;
     }
 
 pub ended_over :

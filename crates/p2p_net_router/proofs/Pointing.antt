@@ -1,7 +1,7 @@
 -- The relay of a connection, found by its number.
 use Rattle.std.proofs.Common.{◌≡◌, ℕ, Bool, true, false, cond, List, [], ◌∷◌, refl, ap, sym, subst, ◌∙◌, arith, Option, Some, None}
 use Rattle.std.specs.Prelude.{◌==◌, is_some}
-use Rattle.std.specs.Ordering.{nat_cmp, is_eq}
+use Rattle.std.specs.Ordering.{nat_cmp}
 use Rattle.std.proofs.lemmas.Bool.Decides.{nat_tests}
 use Rattle.std.proofs.lemmas.Bool.{false≢true}
 use Rattle.p2p_base.specs.declared.key.Key.{Key}
@@ -11,20 +11,25 @@ use Rattle.p2p_router.specs.Connections.{is_over, is_same, peer_in, peer_over, p
 use Rattle.p2p_router.specs.Routes.{Routes}
 use Rattle.p2p_router.specs.Routing.{link_of, with_link, relay_over, relay_set}
 use Rattle.p2p_router.specs.declared.link.Link.{Link}
+use Rattle.p2p_log.specs.declared.config.Config.{Config}
+use Rattle.p2p_log.specs.declared.entry.Entry.{Entry}
+use Rattle.p2p_log.specs.declared.item.Envelope.{Envelope}
+use Rattle.p2p_log_rules.specs.Connections.{is_ended}
+use Rattle.p2p_log_rules.specs.Effect.{mailbox_size_at}
 use Rattle.p2p_peer_shared.specs.Routing.{with_closed, relay_closed}
 use Rattle.p2p_net_router.specs.Items.{key_cmp}
 use Rattle.std.specs.BTreeMap.{get}
-use Rattle.p2p_net_router.specs.Ends.{AreEnded}
+use Rattle.p2p_net_router.specs.Holds.{routes_in}
 use Rattle.p2p_net_router.specs.Items.{messages_in}
 use Rattle.p2p_net_router.specs.Sound.{IsSound, IsInTurn, said_of}
+use Rattle.p2p_net_router.specs.Stands.{StandsOver}
 use Rattle.p2p_net_router.specs.declared.router.Router.{Router}
 use Rattle.p2p_net_router.proofs.Copying.{key_from}
+use Rattle.p2p_net_router.proofs.Indexing.{is_number, same_index, link_known}
+use Rattle.p2p_net_router.proofs.Linking.{routes_in-with_link}
 
 same_number : (c : ℕ) → (c == c) ≡ true
 same_number c = grind (arith, nat_tests)
-
-is_number : (c d : ℕ) → is_eq (nat_cmp c d) ≡ (c == d)
-is_number c d = grind (arith, nat_tests)
 
 module _ (a : Routes Key) (conn : ℕ) (key : Key) (l : Link) (indexed : IsIndexed key_cmp a) (at : link_of key_cmp a.links key ≡ Some l) (over : l.conn ≡ conn) where
   is_over_it : is_over conn (link_of key_cmp a.links key) ≡ true
@@ -53,31 +58,48 @@ module _ (a : Routes Key) (conn : ℕ) (key : Key) (l : Link) (indexed : IsIndex
   pub with_closed-link : with_closed key_cmp a conn ≡ record a { links = with_link key_cmp a.links key (record { conn = l.conn; relay = closed_lanes l.relay }) }
   with_closed-link = ap (relay_closed key_cmp a conn) relay_at-link ∙ with_relay_at-link (closed_lanes l.relay)
 
+-- ---- a router with another relay, or a closed one, still finds all
+
+set_routes : (o : Option Link) (links : List (Key × Link)) (q : Key) (w : Lanes EncodedData) → link_of key_cmp links q ≡ o → routes_in (relay_set key_cmp o links q w) ≡ routes_in links
+set_routes None links q w at = refl
+set_routes (Some l) links q w at = routes_in-with_link links q l (record { conn = l.conn; relay = w }) at refl
+
+relayed_routes : (o : Option Key) (links : List (Key × Link)) (w : Lanes EncodedData) → routes_in (with_relay_to key_cmp links o w) ≡ routes_in links
+relayed_routes None links w = refl
+relayed_routes (Some q) links w = set_routes (link_of key_cmp links q) links q w refl
+
+pub with_relay_at-indexed : (a : Routes Key) (conn : ℕ) (w : Lanes EncodedData) → IsIndexed key_cmp a → IsIndexed key_cmp (with_relay_at key_cmp a conn w)
+with_relay_at-indexed a conn w indexed = same_index a (with_relay_at key_cmp a conn w) (relayed_routes (peer_at key_cmp a conn) a.links w) refl indexed
+
+closed_indexed : (a : Routes Key) (conn : ℕ) (o : Option (Lanes EncodedData)) → IsIndexed key_cmp a → IsIndexed key_cmp (relay_closed key_cmp a conn o)
+closed_indexed a conn None indexed = indexed
+closed_indexed a conn (Some w) indexed = with_relay_at-indexed a conn (closed_lanes w) indexed
+
+pub with_closed-indexed : (a : Routes Key) (conn : ℕ) → IsIndexed key_cmp a → IsIndexed key_cmp (with_closed key_cmp a conn)
+with_closed-indexed a conn indexed = closed_indexed a conn (relay_at key_cmp a conn) indexed
+
 -- ---- whether there is a relay
 
 abbrev pub is_quiet : List (Option ℕ) → Bool
 is_quiet [] = true
 is_quiet (o ∷ said) = false
 
-closed_not : (b c : Bool) → b ≡ true → c ≡ false → b ≡ c → ⊥
-closed_not b c t f e = false≢true (sym f ∙ (sym e ∙ t))
+module _ (configs : List Config) (log : List Entry) (r : Router) (items : List Envelope) (conn : ℕ) (key : Key) (stands : StandsOver configs log r items) (known : get nat_cmp r.peers conn ≡ Some key) where
+  abbrev size : ℕ
+  size = mailbox_size_at configs r.number
 
-module _ (size : ℕ) (r : Router) (conn : ℕ) (key : Key) (ended : ℕ → Bool) (s : IsSound size r) (e : AreEnded ended r.peers r.actor.links) (indexed : IsIndexed key_cmp r.actor) (known : get nat_cmp r.peers conn ≡ Some key) where
+  s : IsSound size r
+  s = stands.holds.sound
+
   abbrev links : List (Key × Link)
   links = r.actor.links
 
   abbrev said : Key → List (Option ℕ)
   said k = said_of k (messages_in r.messenger.binding)
 
-  some_is : {A : Type 0} (x y : A) → ◌≡◌ {A = Option A} (Some x) (Some y) → x ≡ y
-  some_is x y h = cc
-
   -- a link over the connection is that of its key, and open
   its : (q : Key) (m : Link) (w : List (Option ℕ)) → link_of key_cmp links q ≡ Some m → m.conn ≡ conn → IsInTurn size r.peers q (Some m) w → (q ≡ key) × (w ≡ [])
-  its q m [] at over turn = (some_is q key (sym turn.1 ∙ (ap (get nat_cmp r.peers) over ∙ known)), refl)
-  its q m (None ∷ w) at over turn =
-      absurd (closed_not m.relay.high.closed (ended conn) turn.0.high_closed (e.known conn key known) ((e.relays q m at).high ∙ ap ended over))
-  its q m (Some c ∷ w) at over turn = elim turn [ ]
+  its q m w at over turn = link_known size r.peers links (is_ended log r.number) conn key stands.ended known q m w at over turn
 
   -- whoever is connected over it is its key
   connected : (q : Key) (o : Option Link) → link_of key_cmp links q ≡ o → is_over conn o ≡ true → (q ≡ key) × (said q ≡ [])
@@ -100,7 +122,7 @@ module _ (size : ℕ) (r : Router) (conn : ℕ) (key : Key) (ended : ℕ → Boo
 
   some_over : (l : Option Link) → link_of key_cmp links key ≡ l → IsInTurn size r.peers key l [] → is_some (relay_at key_cmp r.actor conn) ≡ true
   some_over None at turn = absurd (turn conn known)
-  some_over (Some l) at turn = ap (λ o. is_some o) (relay_at-link r.actor conn key l indexed at (s.single key l.conn conn turn.1 known))
+  some_over (Some l) at turn = ap (λ o. is_some o) (relay_at-link r.actor conn key l stands.indexed at (s.single key l.conn conn turn.1 known))
 
   by_said : (w : List (Option ℕ)) → said key ≡ w → is_some (relay_at key_cmp r.actor conn) ≡ is_quiet w
   by_said [] told = some_over (link_of key_cmp links key) refl (subst (IsInTurn size r.peers key (link_of key_cmp links key)) told (s.turns key))

@@ -5,6 +5,7 @@ use Rattle.std.specs.List.{AllByRecursion}
 use Rattle.std.proofs.lemmas.Bool.{false≢true}
 use Rattle.p2p_base.specs.declared.key.Key.{Key}
 use Rattle.p2p_base.specs.Queue.{without_oldest}
+use Rattle.p2p_router.specs.Connections.{IsIndexed}
 use Rattle.p2p_router.specs.Routes.{Routes}
 use Rattle.p2p_router.specs.Routing.{link_of}
 use Rattle.p2p_router.specs.Messenger.{Desk, message_taken, in_mailbox, is_bound}
@@ -120,8 +121,8 @@ routed_row configs log entry old desk actor names row h =
 pub routed_stands :
     (configs : List Config) (log : List Entry) (entry : ℕ) (event : Event) (old : Router) (desk : Desk Key) (actor : Routes Key) (names : Board Name) (row : Row)
     → StandsFor configs log old → length log ≡ entry → event.act ≡ act.Router old.number
-    → IsRouted configs log entry old desk actor names row → StandsFor configs (log ++ entry_of event row ∷ []) (stepped_to old desk actor names)
-routed_stands configs log entry event old desk actor names row s at is h =
+    → IsRouted configs log entry old desk actor names row → IsIndexed key_cmp actor → StandsFor configs (log ++ entry_of event row ∷ []) (stepped_to old desk actor names)
+routed_stands configs log entry event old desk actor names row s at is h indexed =
     let n = old.number in
     let e = entry_of event row in
     let took : taken log e ≡ h.x.item ∷ [] = taken-first log e (queue.Router n) h.x h.rest (line_is log (queue.Router n) ∙ h.first) h.takes in
@@ -138,6 +139,7 @@ routed_stands configs log entry event old desk actor names row s at is h =
           (subst (λ k. HasPlaces k old.messenger.binding) (ap (λ l. mailbox_size_at configs n + sum_capacities l) (sym same)) s.places));
       ended = ended_beside log e n old.peers actor.links (λ conn. ends_untold log e n conn (act.Router n) is refl) h.ended;
       works = h.works ∙ s.works;
+      indexed = indexed;
     }
 
 -- ---- a step that took nothing
@@ -164,4 +166,5 @@ idle_stands configs log entry event r row s is idle =
       places = subst (λ k. HasPlaces k r.messenger.binding) (ap (λ l. mailbox_size_at configs n + sum_capacities l) (sym same)) s.places;
       ended = ended_beside log e n r.peers r.actor.links (λ conn. ends_untold log e n conn (act.Router n) is refl) s.ended;
       works = s.works;
+      indexed = s.indexed;
     }

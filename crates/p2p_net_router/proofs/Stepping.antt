@@ -1,6 +1,9 @@
 -- Every step, as the log has it.
 use Rattle.std.proofs.Common.{◌≡◌, ℕ, false, List, [], ◌∷◌, ◌++◌, length, refl, ap, sym, subst, ◌∙◌}
+use Rattle.std.specs.List.Sorted.{IsStrictlySortedBy}
+use Rattle.std.specs.Map.{keys_of}
 use Rattle.p2p_base.specs.declared.key.Key.{Key}
+use Rattle.p2p_router.specs.Connections.{IsIndexed, IsOfOnePeer}
 use Rattle.p2p_router.specs.Routes.{Routes}
 use Rattle.p2p_router.specs.Messenger.{Desk, message_waiting}
 use Rattle.p2p_router.specs.Step.{stepped_on, routes_on, desk_on}
@@ -29,6 +32,7 @@ use Rattle.p2p_net_router.specs.declared.router.Router.{Router}
 use Rattle.p2p_net_router.specs.declared.name.Name.{Name}
 use Rattle.p2p_net_router.proofs.Answered.{was_idle}
 use Rattle.p2p_net_router.proofs.Contents.{routed_content}
+use Rattle.p2p_net_router.proofs.OnePeer.{indexed_stepped}
 use Rattle.p2p_net_router.proofs.Others.{idle_adds}
 use Rattle.p2p_net_router.proofs.Routed.{IsRouted, routed_row, routed_stands}
 use Rattle.p2p_net_router.proofs.Released.{routed_release}
@@ -43,23 +47,23 @@ pub record IsStepped (configs : List Config) (log : List Entry) (entry : ℕ) (o
 
 by_route :
     (configs : List Config) (log : List Entry) (entry : ℕ) (old : Router) (desk : Desk Key) (actor : Routes Key) (names : Board Name) (row : Row)
-    → StandsFor configs log old → IsRouted configs log entry old desk actor names row → IsStepped configs log entry old desk actor names row
-by_route configs log entry old desk actor names row s h = record {
+    → StandsFor configs log old → IsIndexed key_cmp actor → IsRouted configs log entry old desk actor names row → IsStepped configs log entry old desk actor names row
+by_route configs log entry old desk actor names row s indexed h = record {
   row_is = routed_row configs log entry old desk actor names row h;
   adds = h.adds;
-  stands = λ event at is. routed_stands configs log entry event old desk actor names row s at is h;
+  stands = λ event at is. routed_stands configs log entry event old desk actor names row s at is h indexed;
 }
 
 of_known :
     (configs : List Config) (log : List Entry) (entry : ℕ) (old : Router) (desk : Desk Key) (actor : Routes Key) (names : Board Name) (row : Row) (s : Stepped Key)
-    → StandsFor configs log old → s ≡ stepped_on key_cmp old.actor old.messenger (message_waiting old.messenger)
+    → StandsFor configs log old → IsIndexed key_cmp actor → s ≡ stepped_on key_cmp old.actor old.messenger (message_waiting old.messenger)
     → actor ≡ routes_on key_cmp old.actor old.messenger (message_waiting old.messenger)
     → desk ≡ desk_on key_cmp old.actor old.messenger (message_waiting old.messenger)
     → (s ≡ stepped.Idle → (row ≡ only reply.Idle) × (names ≡ old.names))
     → ((items : List Envelope) (x : Envelope) (rest : List Envelope) → IsOldest old.number old.names items x rest → row ≡ stepped_row old.number old.channels.items s x items)
     → ((items : List Envelope) (x : Envelope) (rest : List Envelope) → IsOldest old.number old.names items x rest → Agrees old.number label (held names) (after entry row items))
     → IsStepped configs log entry old desk actor names row
-of_known configs log entry old desk actor names row stepped.Idle stands answered actor_is desk_is idle row_is names_are =
+of_known configs log entry old desk actor names row stepped.Idle stands indexed answered actor_is desk_is idle row_is names_are =
     let still = idle refl in
     record {
       row_is = still.0 ∙ sym (ap (route_oldest configs log old.number) (idle_row configs log old stands (was_idle old.actor old.messenger (message_waiting old.messenger) answered)));
@@ -68,21 +72,22 @@ of_known configs log entry old desk actor names row stepped.Idle stands answered
           subst (λ (b : Board Name). StandsFor configs (log ++ entry_of event row ∷ []) (stepped_to old desk actor b)) (sym still.1)
           (idle_stepped configs log entry event old desk actor row stands is still.0 answered actor_is desk_is);
     }
-of_known configs log entry old desk actor names row (stepped.Ready peer conn replaced told) stands answered actor_is desk_is idle row_is names_are =
-    by_route configs log entry old desk actor names row stands (routed_ready configs log entry old desk actor names row peer conn replaced told stands answered actor_is desk_is row_is names_are)
-of_known configs log entry old desk actor names row (stepped.Release peer told) stands answered actor_is desk_is idle row_is names_are =
-    by_route configs log entry old desk actor names row stands (routed_release configs log entry old desk actor names row peer told stands answered actor_is desk_is row_is names_are)
-of_known configs log entry old desk actor names row (stepped.Content encoded rs) stands answered actor_is desk_is idle row_is names_are =
-    by_route configs log entry old desk actor names row stands (routed_content configs log entry old desk actor names row encoded rs stands answered actor_is desk_is row_is names_are)
-of_known configs log entry old desk actor names row (stepped.SubscribePeers number told) stands answered actor_is desk_is idle row_is names_are =
-    by_route configs log entry old desk actor names row stands (routed_subscription configs log entry old desk actor names row number told stands answered actor_is desk_is row_is names_are)
+of_known configs log entry old desk actor names row (stepped.Ready peer conn replaced told) stands indexed answered actor_is desk_is idle row_is names_are =
+    by_route configs log entry old desk actor names row stands indexed (routed_ready configs log entry old desk actor names row peer conn replaced told stands answered actor_is desk_is row_is names_are)
+of_known configs log entry old desk actor names row (stepped.Release peer told) stands indexed answered actor_is desk_is idle row_is names_are =
+    by_route configs log entry old desk actor names row stands indexed (routed_release configs log entry old desk actor names row peer told stands answered actor_is desk_is row_is names_are)
+of_known configs log entry old desk actor names row (stepped.Content encoded rs) stands indexed answered actor_is desk_is idle row_is names_are =
+    by_route configs log entry old desk actor names row stands indexed (routed_content configs log entry old desk actor names row encoded rs stands answered actor_is desk_is row_is names_are)
+of_known configs log entry old desk actor names row (stepped.SubscribePeers number told) stands indexed answered actor_is desk_is idle row_is names_are =
+    by_route configs log entry old desk actor names row stands indexed (routed_subscription configs log entry old desk actor names row number told stands answered actor_is desk_is row_is names_are)
 
 pub each_step :
     (configs : List Config) (log : List Entry) (entry : ℕ) (old : Router) (desk : Desk Key) (actor : Routes Key) (names : Board Name) (row : Row) (channels : List ℕ) (s : Stepped Key)
     → StandsFor configs log old → channels ≡ old.channels.items → s ≡ stepped_on key_cmp old.actor old.messenger (message_waiting old.messenger)
     → actor ≡ routes_on key_cmp old.actor old.messenger (message_waiting old.messenger)
     → desk ≡ desk_on key_cmp old.actor old.messenger (message_waiting old.messenger)
+    → (IsStrictlySortedBy key_cmp (keys_of old.actor.links) → IsIndexed key_cmp old.actor → IsOfOnePeer key_cmp old.actor.links (message_waiting old.messenger) → IsIndexed key_cmp actor)
     → IsNoted old.number entry channels old.names names s row → IsStepped configs log entry old desk actor names row
-each_step configs log entry old desk actor names row channels s stands same answered actor_is desk_is noted =
-    of_known configs log entry old desk actor names row s stands answered actor_is desk_is noted.idle
+each_step configs log entry old desk actor names row channels s stands same answered actor_is desk_is keeps noted =
+    of_known configs log entry old desk actor names row s stands (indexed_stepped configs log old actor stands keeps) answered actor_is desk_is noted.idle
     (λ items x rest o. noted.row_is items x rest o ∙ ap (λ cs. stepped_row old.number cs s x items) same) noted.names

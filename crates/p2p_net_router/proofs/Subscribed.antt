@@ -34,6 +34,7 @@ use Rattle.p2p_net_router.specs.Holds.{Holds, routes_in}
 use Rattle.p2p_net_router.specs.Stands.{RoutesNothing, StandsFor, HasPlaces, IsRegistration}
 use Rattle.p2p_net_router.specs.declared.router.Router.{Router}
 use Rattle.p2p_net_router.proofs.Endings.{ends_untold, ended_beside}
+use Rattle.p2p_net_router.proofs.Indexing.{none_indexed}
 use Rattle.p2p_net_router.proofs.Started.{is_none}
 use Rattle.p2p_net_router.proofs.Unrouted.{unrouted_apart}
 
@@ -90,6 +91,7 @@ fresh_stands configs r h = record {
     known = λ c k at. absurd (let e : None ≡ Some k = sym (h.peers c) ∙ at in cc);
   };
   works = ap (λ (x : Routes Key). x.failed) h.actor;
+  indexed = none_indexed r.actor h.actor;
 }
 
 -- ---- one more channel
@@ -279,6 +281,7 @@ subscribed_stands configs log e r new d s runs g h absent =
       places = subst (λ (m : Desk Key). HasPlaces (router_capacity configs (log ++ e ∷ []) n) m.binding) (sym h.desk) tt;
       ended = ended_beside log e n r.peers r.actor.links (λ conn. ends_untold log e n conn (act.Register d n g.rate) g.is refl) s.ended;
       works = s.works;
+      indexed = s.indexed;
     })
 
 pub is_subscribed :

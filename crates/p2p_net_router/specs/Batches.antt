@@ -15,7 +15,7 @@ all_of n conn items = filter (stands_in (queue.High n conn)) items ++ filter (st
 abbrev pub batch_of : ℕ → ℕ → ℕ → List Envelope → List Envelope
 batch_of n conn size items = take size (all_of n conn items)
 
--- of a router the relays and the names alone changed, and no connection, nor whether one has ended, nor whether its actor found memory
+-- of a router the relays and the names alone changed, and no connection, nor whose it is, nor whether one has ended, nor whether its actor found memory
 pub record AreKept (old new : Router) : Type 0 where
   pub number : new.number ≡ old.number
   pub messenger : new.messenger ≡ old.messenger
@@ -26,3 +26,4 @@ pub record AreKept (old new : Router) : Type 0 where
   pub routes : routes_in new.actor.links ≡ routes_in old.actor.links
   pub ended : (f : ℕ → Bool) → AreEnded f old.peers old.actor.links → AreEnded f new.peers new.actor.links
   pub works : new.actor.failed ≡ old.actor.failed
+  pub owners : new.actor.peers ≡ old.actor.peers

@@ -2,6 +2,7 @@
 use Rattle.std.specs.Prelude.{◌≡◌, ◌==◌, ℕ, true, false, List, [], ◌∷◌, ◌++◌, length, map}
 use Rattle.std.specs.List.{AllByRecursion}
 use Rattle.p2p_base.specs.declared.key.Key.{Key}
+use Rattle.p2p_router.specs.Connections.{IsIndexed}
 use Rattle.p2p_router.specs.Messenger.{is_bound}
 use Rattle.p2p_router.specs.declared.messenger.Binding.{Binding}
 use Rattle.p2p_router.specs.declared.messenger.Binding.TheVariants.{Unbound, Bound, Closed}
@@ -22,6 +23,7 @@ use Rattle.p2p_log_rules.specs.Facts.{channels, is_up, registers_at, turns, rout
 use Rattle.p2p_log_rules.specs.Effect.{mailbox_size_at, router_capacity}
 use Rattle.p2p_net_router.specs.Ends.{AreEnded}
 use Rattle.p2p_net_router.specs.Holds.{Holds, routes_in, channels_told}
+use Rattle.p2p_net_router.specs.Items.{key_cmp}
 use Rattle.p2p_net_router.specs.declared.router.Router.{Router}
 
 -- a mailbox has so many ready places, and is never closed
@@ -75,7 +77,8 @@ pub record IsEnding (configs : List Config) (log : List Entry) (e : Entry) (n co
   pub puts : e.puts ≡ (queue.Router n, item.Release key) ∷ rest
   pub away : (q : Queue) → is_routers n q ≡ true → AreAway q rest
 
--- a router has these items in its queues, its actor has found memory so far, and the rest is as the log says
+-- a router has these items in its queues, its actor has found memory so far and finds the relay of each link by its connection, and the rest is
+-- as the log says
 pub record StandsOver (configs : List Config) (log : List Entry) (r : Router) (items : List Envelope) : Type 0 where
   pub holds : Holds (mailbox_size_at configs r.number) r items
   pub routes_are : routes_in r.actor.links ≡ routes log r.number
@@ -85,6 +88,7 @@ pub record StandsOver (configs : List Config) (log : List Entry) (r : Router) (i
   pub places : HasPlaces (router_capacity configs log r.number) r.messenger.binding
   pub ended : AreEnded (is_ended log r.number) r.peers r.actor.links
   pub works : r.actor.failed ≡ false
+  pub indexed : IsIndexed key_cmp r.actor
 
 -- and these are what stands there by the log
 abbrev pub StandsFor : List Config → List Entry → Router → Type 0
